@@ -1,0 +1,7 @@
+use mathlib.Core.Path.{refl}
+use lib.Dec.{lit<}
+use Rattle.fields.proofs.Shop.{shop-is}
+use Rattle.fields.proofs.residue.ResidueRing.zero.Needs as need
+
+pub returns : need.returns
+returns c = record { means = refl; held = rw shop-is (lit< tt) }
