@@ -1,5 +1,6 @@
 pub mod Rings
 pub mod Solver
+pub mod Raised
 pub mod Duals
 pub mod Fields
 pub mod Sums

@@ -35,3 +35,7 @@ power o a (suc k) = o .times a (power o a k)
 abbrev pub number : (o : Ops) → ℕ → o .V
 number o zero = o .nought
 number o (suc n) = o .plus (o .unit) (number o n)
+
+-- a to the power k too, but shut, so that no proof counts to a large k
+unfoldable pub raised : (o : Ops) → o .V → ℕ → o .V
+raised o a k = power o a k

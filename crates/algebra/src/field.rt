@@ -2,6 +2,7 @@ ghost use mathlib.Core.Path.{_≡_};
 ghost use Prim.Native.Nat.{ℕ, _<_, _≤_};
 ghost use prog.Memory.{size, align};
 ghost use denote.Param.{layout};
+ghost use Rattle.algebra.specs.Rings.{number};
 ghost use Rattle.algebra.specs.Fields.{Bounded, Tower, Coded, Inverse, Invertible, Primitive, IsField};
 use crate::code::Code;
 use crate::ring::Ring;
@@ -69,4 +70,13 @@ pub fn field_laws<F: Field>() -> u32
     let _inverse = zero.inverse();
     let _primitive = F::primitive();
     F::size()
+}
+
+// The sum of n ones, for which the whole number n stands.
+pub fn whole<F: Field>(n: u32) -> F
+    ensures means { λ r. ⌜ F·Ring .value r ≡ number (F·Ring .ring) n ⌝ }
+    ensures held { λ r. ⌜ F·Ring .canonical r ⌝ }
+{
+    let order = field_laws::<F>();
+    F::from_code(Code(n % order))
 }

@@ -1,7 +1,7 @@
 -- The field of 469762049 elements: the residues modulo that number, which is 7 * 2 ^ 26 + 1.
 use Prim.Native.Nat.{ℕ, _<_}
 use lib.Dec.{lit<}
-use Rattle.algebra.specs.Rings.{Ops, power}
+use Rattle.algebra.specs.Rings.{Ops}
 use Rattle.fields.specs.Residues.{Residue, rest, residues}
 
 -- shut, so that no proof counts to it
@@ -18,7 +18,3 @@ shop = residues shop-order shop-pos
 -- the primitive element
 abbrev pub three : Residue shop-order
 three = rest shop-order shop-pos 3
-
--- x to the power n; shut, so that no proof counts to n
-unfoldable pub shop-power : Residue shop-order → ℕ → Residue shop-order
-shop-power x n = power shop x n

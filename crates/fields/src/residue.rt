@@ -3,10 +3,11 @@ ghost use mathlib.Core.Bool.{cond};
 ghost use Prim.Native.Nat.{_<_, _%_};
 ghost use lib.Dec.{ltb};
 ghost use Rattle.fields.specs.Residues.{rest};
-ghost use Rattle.fields.specs.Shop.{shop-order, shop-pos, shop, shop-power};
+ghost use Rattle.fields.specs.Shop.{shop-order, shop-pos, shop};
 use algebra::code::Code;
 use algebra::code::CodeDebug;
 use algebra::field::Field;
+use algebra::power::power;
 use algebra::ring::Ring;
 
 // The number of residues, 7 * 2^26 + 1.
@@ -60,24 +61,6 @@ pub impl Ring for Residue as ResidueRing {
     }
 }
 
-// x to the power of the exponent, by squaring.
-fn raised(x: Residue, exponent: u32) -> Residue
-    ensures means { λ r. ⌜ rest shop-order shop-pos (r .code .0) ≡ shop-power (rest shop-order shop-pos (x .code .0)) exponent ⌝ }
-    ensures held { λ r. ⌜ r .code .0 < shop-order ⌝ }
-{
-    let mut answer = Residue::one();
-    let mut square = x;
-    let mut left = exponent;
-    while left > 0 {
-        if left % 2 == 1 {
-            answer = answer.mul(square);
-        }
-        square = square.mul(square);
-        left /= 2;
-    }
-    answer
-}
-
 pub impl Field for Residue as ResidueField {
     ghost order = { shop-order };
 
@@ -112,7 +95,7 @@ pub impl Field for Residue as ResidueField {
 
     // the power ORDER - 2, which at zero is zero
     fn inverse(self) -> Residue {
-        raised(self, ORDER - 2)
+        power(self, ORDER - 2)
     }
 
     fn primitive() -> Residue {
