@@ -11,13 +11,19 @@ both p q = λ i. (p i, q i)
 
 module _ (o : Ops) (L : Lawful o) where
   cross-assoc : (a b c d e f : o .V) → o .plus (o .times (o .times a c) f) (o .times (o .plus (o .times a d) (o .times b c)) e)
-    ≡ o .plus (o .times a (o .plus (o .times c f) (o .times d e))) (o .times b (o .times c e))
+      ≡ o .plus (o .times a (o .plus (o .times c f) (o .times d e))) (o .times b (o .times c e))
   cross-assoc a b c d e f =
-      cc (L .times-assoc a c f, plus-times o L (o .times a d) (o .times b c) e, L .times-assoc a d e, L .times-assoc b c e,
-          L .times-plus a (o .times c f) (o .times d e), L .plus-assoc (o .times a (o .times c f)) (o .times a (o .times d e)) (o .times b (o .times c e)))
+      cc (
+        L .times-assoc a c f,
+        plus-times o L (o .times a d) (o .times b c) e,
+        L .times-assoc a d e,
+        L .times-assoc b c e,
+        L .times-plus a (o .times c f) (o .times d e),
+        L .plus-assoc (o .times a (o .times c f)) (o .times a (o .times d e)) (o .times b (o .times c e)),
+      )
 
   cross-plus : (a b c d e f : o .V) → o .plus (o .times a (o .plus d f)) (o .times b (o .plus c e))
-    ≡ o .plus (o .plus (o .times a d) (o .times b c)) (o .plus (o .times a f) (o .times b e))
+      ≡ o .plus (o .plus (o .times a d) (o .times b c)) (o .plus (o .times a f) (o .times b e))
   cross-plus a b c d e f =
       let ad = o .times a d in let af = o .times a f in let bc = o .times b c in let be = o .times b e in
       cc (L .times-plus a d f, L .times-plus b c e, L .plus-assoc ad af (o .plus bc be), plus-left o L af bc be, L .plus-assoc ad bc (o .plus af be))

@@ -23,8 +23,9 @@ module _ (o : Ops) (L : Lawful o) where
 module _ (o : Ops) (L : Lawful o) (inv : Invertible o) where
   pub no-divisors : (x y : o .V) → o .times x y ≡ o .nought → (x ≡ o .nought) ⊎ (y ≡ o .nought)
   no-divisors x y e = elim (decide o L x (o .nought)) [
-      inl h ↦ inl h
-    | inr h ↦ inr (solve₂ o L (x ∷ y ∷ inv x .0 ∷ []) (v 1) 𝟎 (⊖ v 1) (v 0 ⊗ v 2) 𝟏 (inv x .1 .of-other h) (v 2) (v 0 ⊗ v 1) 𝟎 e refl) ]
+    | inl h ↦ inl h
+    | inr h ↦ inr (solve₂ o L (x ∷ y ∷ inv x .0 ∷ []) (v 1) 𝟎 (⊖ v 1) (v 0 ⊗ v 2) 𝟏 (inv x .1 .of-other h) (v 2) (v 0 ⊗ v 1) 𝟎 e refl)
+  ]
 
   pub times-nonzero : (x y : o .V) → x ≢ o .nought → y ≢ o .nought → o .times x y ≢ o .nought
   times-nonzero x y hx hy e = elim (no-divisors x y e) [ inl h ↦ hx h | inr h ↦ hy h ]
@@ -42,8 +43,9 @@ module _ (o : Ops) (L : Lawful o) (inv : Invertible o) where
   square-roots x y e =
       let E = x ∷ y ∷ [] in
       elim (no-divisors (o .plus x (o .minus y)) (o .plus x y) (solve₁ o L E ((v 0 ⊝ v 1) ⊗ (v 0 ⊕ v 1)) 𝟎 𝟏 (v 0 ⊗ v 0) (v 1 ⊗ v 1) e refl)) [
-        inl h ↦ inl (solve₁ o L E (v 0) (v 1) 𝟏 (v 0 ⊝ v 1) 𝟎 h refl)
-      | inr h ↦ inr (solve₁ o L E (v 0) (⊖ v 1) 𝟏 (v 0 ⊕ v 1) 𝟎 h refl) ]
+        | inl h ↦ inl (solve₁ o L E (v 0) (v 1) 𝟏 (v 0 ⊝ v 1) 𝟎 h refl)
+        | inr h ↦ inr (solve₁ o L E (v 0) (⊖ v 1) 𝟏 (v 0 ⊕ v 1) 𝟎 h refl)
+      ]
 
 module _ (o : Ops) (L : Lawful o) (q M m : ℕ) (at : ℕ → o .V) (z : o .V) (F : IsField o q M m at z) where
   pub unit≢nought : o .unit ≢ o .nought
@@ -66,9 +68,9 @@ module _ (o : Ops) (L : Lawful o) (q M m : ℕ) (at : ℕ → o .V) (z : o .V) (
           let d = q - 1 - i in
           let s : i + d ≡ q - 1 = omega arith in
           let p : o .times (power o z i) (power o z d) ≡ o .times (power o z i) (o .unit) =
-                sym (power-add o L z i d) ∙ ap (power o z) s ∙ sym e ∙ sym (L .times-unit (power o z i)) in
+          sym (power-add o L z i d) ∙ ap (power o z) s ∙ sym e ∙ sym (L .times-unit (power o z i)) in
           let n : d ≡ 0 = F .primitive .once d 0 (omega arith) (omega arith)
-                (times-cancel o L (F .invertible) (power o z i) (power o z d) (o .unit) (zeta-power-nonzero i) p) in
+          (times-cancel o L (F .invertible) (power o z i) (power o z d) (o .unit) (zeta-power-nonzero i) p) in
           absurd (omega arith)
 
   pub zeta-periodic : (e : ℕ) → power o z (e + (q - 1)) ≡ power o z e
@@ -101,10 +103,11 @@ module _ (o : Ops) (L : Lawful o) (q M m : ℕ) (at : ℕ → o .V) (z : o .V) (
       let h = (q - 1) / 2 in
       let b = F .bounded .low in
       let e : o .times (power o z h) (power o z h) ≡ o .times (o .unit) (o .unit) =
-            sym (power-add o L z h h) ∙ ap (power o z) half-twice ∙ zeta-order ∙ sym (L .times-unit (o .unit)) in
+      sym (power-add o L z h h) ∙ ap (power o z) half-twice ∙ zeta-order ∙ sym (L .times-unit (o .unit)) in
       elim (square-roots o L (F .invertible) (power o z h) (o .unit) e) [
-        inl p ↦ (let n : h ≡ 0 = F .primitive .once h 0 (omega arith) (omega arith) p in absurd (omega arith))
-      | inr p ↦ p ]
+        | inl p ↦ (let n : h ≡ 0 = F .primitive .once h 0 (omega arith) (omega arith) p in absurd (omega arith))
+        | inr p ↦ p
+      ]
 
   pub number-once : (a b : ℕ) → a < q → b < q → number o a ≡ number o b → a ≡ b
   number-once a b ha hb e = F .coded .once a b ha hb (sym (F .coded .ones a ha) ∙ e ∙ F .coded .ones b hb)

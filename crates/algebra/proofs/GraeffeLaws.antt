@@ -55,7 +55,7 @@ module _ (o : Ops) (L : Lawful o) where
   pub sign-odd : (a b k : ℕ) → a + b ≡ suc (k + k) → sign o a ≡ o .minus (sign o b)
   sign-odd a b k e =
       let both : o .times (sign o a) (sign o b) ≡ o .minus (o .unit) =
-          sym (power-add o L (o .minus (o .unit)) a b) ∙ ap (sign o) e ∙ sign-suc o L (k + k) ∙ ap (o .minus) (sign-twice k) in
+      sym (power-add o L (o .minus (o .unit)) a b) ∙ ap (sign o) e ∙ sign-suc o L (k + k) ∙ ap (o .minus) (sign-twice k) in
       partner a b ∙ ap (λ t. o .times t (sign o b)) both ∙ minus-times o L (o .unit) (sign o b) ∙ ap (o .minus) (unit-times o L (sign o b))
 
   total-minus : (u : ℕ → o .V) (n : ℕ) → total o (λ i. o .minus (u i)) n ≡ o .minus (total o u n)
@@ -86,20 +86,22 @@ module _ (o : Ops) (L : Lawful o) where
 
     -- an even place: the terms below the middle twice, and the middle one
     pub even-place : (k : ℕ) → coefficient o (product o f (alternate o f)) (k + k)
-      ≡ o .plus (total o (signed o f (k + k)) k) (o .plus (signed o f (k + k) k) (total o (signed o f (k + k)) k))
+        ≡ o .plus (total o (signed o f (k + k)) k) (o .plus (signed o f (k + k) k) (total o (signed o f (k + k)) k))
     even-place k =
         let u : ℕ → o .V = signed o f (k + k) in
         product-terms (k + k)
         ∙ total-same o L (term (k + k)) u (suc (k + k)) (λ i h.
-            let e : k + k - i + i ≡ k + k = omega arith in
-            term-is (k + k) i ∙ ap (λ s. o .times s (pair o f (k + k) i)) (sign-even (k + k - i) i k e))
+        let e : k + k - i + i ≡ k + k = omega arith in
+        term-is (k + k) i ∙ ap (λ s. o .times s (pair o f (k + k) i)) (sign-even (k + k - i) i k e))
         ∙ ap (total o u) (sym (add-suc k k))
         ∙ total-split o L u k (suc k)
         ∙ ap (o .plus (total o u k)) (total-front o L (λ i. u (k + i)) k
-          ∙ cc (ap u (add-zero k),
-                total-reverse o L (λ i. u (k + suc i)) k,
-                total-same o L (λ i. u (k + suc (k - 1 - i))) u k (λ i h.
-                  let e : k + suc (k - 1 - i) ≡ k + k - i = omega arith in ap u e ∙ signed-turn k i (omega arith))))
+        ∙ cc (
+          ap u (add-zero k),
+          total-reverse o L (λ i. u (k + suc i)) k,
+          total-same o L (λ i. u (k + suc (k - 1 - i))) u k (λ i h.
+              let e : k + suc (k - 1 - i) ≡ k + k - i = omega arith in ap u e ∙ signed-turn k i (omega arith)),
+        ))
 
     -- an odd place vanishes
     pub odd-place : (k : ℕ) → coefficient o (product o f (alternate o f)) (suc (k + k)) ≡ o .nought
@@ -111,44 +113,51 @@ module _ (o : Ops) (L : Lawful o) where
         ∙ ap (total o w) (ap suc (sym (suc-add k k)) ∙ sym (add-suc (suc k) k))
         ∙ total-split o L w (suc k) (suc k)
         ∙ ap (o .plus W) (total-reverse o L (λ i. w (suc k + i)) (suc k)
-          ∙ total-same o L (λ i. w (suc k + (suc k - 1 - i))) (λ i. o .minus (w i)) (suc k) (λ i h.
-              let e : suc k + (suc k - 1 - i) ≡ n - i = omega arith in
-              let back : n - (n - i) ≡ i = omega arith in
-              let odd : i + (n - i) ≡ suc (k + k) = omega arith in
-              ap w e ∙ term-is n (n - i)
-              ∙ cc (ap (sign o) back, pair-turn n i (omega arith), sign-odd i (n - i) k odd, minus-times o L (sign o (n - i)) (pair o f n i), term-is n i))
-          ∙ total-minus w (suc k))
+        ∙ total-same o L (λ i. w (suc k + (suc k - 1 - i))) (λ i. o .minus (w i)) (suc k) (λ i h.
+        let e : suc k + (suc k - 1 - i) ≡ n - i = omega arith in
+        let back : n - (n - i) ≡ i = omega arith in
+        let odd : i + (n - i) ≡ suc (k + k) = omega arith in
+        ap w e ∙ term-is n (n - i)
+        ∙ cc (ap (sign o) back, pair-turn n i (omega arith), sign-odd i (n - i) k odd, minus-times o L (sign o (n - i)) (pair o f n i), term-is n i))
+        ∙ total-minus w (suc k))
         ∙ L .plus-minus W
 
     -- a turn of the loop that keeps the alternating sum of the pairs as odd - even
     pub middle-step : (n i : ℕ) (odd even next x y : o .V)
-      → o .plus odd (o .minus even) ≡ o .minus (o .times (sign o i) (total o (signed o f n) i))
-      → x ≡ coefficient o f i → y ≡ coefficient o f (n - i) → next ≡ o .plus even (o .times x y)
-      → o .plus next (o .minus odd) ≡ o .minus (o .times (sign o (suc i)) (total o (signed o f n) (suc i)))
+        → o .plus odd (o .minus even) ≡ o .minus (o .times (sign o i) (total o (signed o f n) i))
+        → x ≡ coefficient o f i → y ≡ coefficient o f (n - i) → next ≡ o .plus even (o .times x y)
+        → o .plus next (o .minus odd) ≡ o .minus (o .times (sign o (suc i)) (total o (signed o f n) (suc i)))
     middle-step n i odd even next x y inv ex ey en =
         let s = sign o i in
         let T = total o (signed o f n) i in
         let t = pair o f n i in
         let back : o .plus (o .minus odd) even ≡ o .times s T =
-            cc (minus-plus o L odd (o .minus even), minus-minus o L even, ap (o .minus) inv, minus-minus o L (o .times s T)) in
+        cc (minus-plus o L odd (o .minus even), minus-minus o L even, ap (o .minus) inv, minus-minus o L (o .times s T)) in
         let left : o .plus next (o .minus odd) ≡ o .plus (o .times s T) t =
-            cc (L .plus-comm even t, L .plus-assoc t even (o .minus odd), L .plus-comm even (o .minus odd), L .plus-comm t (o .times s T)) in
-        left ∙ sym (cc (sign-suc o L i, minus-times o L s (o .plus T (o .times s t)), minus-minus o L (o .times s (o .plus T (o .times s t))),
-            L .times-plus s T (o .times s t), L .times-assoc s s t, sign-square i, unit-times o L t))
+        cc (L .plus-comm even t, L .plus-assoc t even (o .minus odd), L .plus-comm even (o .minus odd), L .plus-comm t (o .times s T)) in
+        left ∙ sym (cc (
+          sign-suc o L i,
+          minus-times o L s (o .plus T (o .times s t)),
+          minus-minus o L (o .times s (o .plus T (o .times s t))),
+          L .times-plus s T (o .times s t),
+          L .times-assoc s s t,
+          sign-square i,
+          unit-times o L t,
+        ))
 
     -- where the partners of all places before i are past the end, nothing is summed yet
     pub middle-start : (n i : ℕ) → ((j : ℕ) → j < i → length f ≤ n - j)
-      → o .plus (o .nought) (o .minus (o .nought)) ≡ o .minus (o .times (sign o i) (total o (signed o f n) i))
+        → o .plus (o .nought) (o .minus (o .nought)) ≡ o .minus (o .times (sign o i) (total o (signed o f n) i))
     middle-start n i past =
         let none : total o (signed o f n) i ≡ o .nought = total-nought o L (signed o f n) i (λ j h.
-            ap (λ t. o .times (sign o j) (o .times (coefficient o f j) t)) (getD-past f (n - j) (o .nought) (past j h))
-            ∙ ap (o .times (sign o j)) (times-nought o L (coefficient o f j)) ∙ times-nought o L (sign o j)) in
+        ap (λ t. o .times (sign o j) (o .times (coefficient o f j) t)) (getD-past f (n - j) (o .nought) (past j h))
+        ∙ ap (o .times (sign o j)) (times-nought o L (coefficient o f j)) ∙ times-nought o L (sign o j)) in
         L .plus-minus (o .nought) ∙ sym (ap (λ t. o .minus (o .times (sign o i) t)) none ∙ ap (o .minus) (times-nought o L (sign o i)) ∙ minus-nought o L)
 
     pub middle-end : (k : ℕ) (half x r : o .V)
-      → half ≡ o .minus (o .times (sign o k) (total o (signed o f (k + k)) k))
-      → x ≡ coefficient o f k → r ≡ o .plus (o .times x x) (o .minus (o .plus half half))
-      → r ≡ o .times (sign o k) (coefficient o (product o f (alternate o f)) (k + k))
+        → half ≡ o .minus (o .times (sign o k) (total o (signed o f (k + k)) k))
+        → x ≡ coefficient o f k → r ≡ o .plus (o .times x x) (o .minus (o .plus half half))
+        → r ≡ o .times (sign o k) (coefficient o (product o f (alternate o f)) (k + k))
     middle-end k half x r eh ex er =
         let s = sign o k in
         let S = total o (signed o f (k + k)) k in
@@ -159,19 +168,19 @@ module _ (o : Ops) (L : Lawful o) where
         let twice : o .minus (o .plus half half) ≡ o .plus T T = cc (minus-plus o L half half, ap (o .minus) eh, minus-minus o L T) in
         let left : r ≡ o .plus T (o .plus t T) = cc (L .plus-comm t (o .plus T T), L .plus-assoc T T t, L .plus-comm T t) in
         left ∙ sym (ap (o .times s) (even-place k)
-          ∙ cc (L .times-plus s S (o .plus (o .times s t) S), L .times-plus s (o .times s t) S, L .times-assoc s s t, sign-square k, unit-times o L t))
+        ∙ cc (L .times-plus s S (o .plus (o .times s t) S), L .times-plus s (o .times s t) S, L .times-assoc s s t, sign-square k, unit-times o L t))
 
     -- the coefficient of the transform, from what the loop gives, by the parity of d - k
     pub place-even : (d k : ℕ) (r : o .V) → k ≤ d → (d - k) % 2 ≡ 0
-      → r ≡ o .times (sign o k) (coefficient o (product o f (alternate o f)) (k + k))
-      → r ≡ o .times (sign o d) (coefficient o (product o f (alternate o f)) (k + k))
+        → r ≡ o .times (sign o k) (coefficient o (product o f (alternate o f)) (k + k))
+        → r ≡ o .times (sign o d) (coefficient o (product o f (alternate o f)) (k + k))
     place-even d k r h e er =
         let twice : d + k ≡ (k + (d - k) / 2) + (k + (d - k) / 2) = omega arith in
         er ∙ ap (λ t. o .times t (coefficient o (product o f (alternate o f)) (k + k))) (sym (sign-even d k (k + (d - k) / 2) twice))
 
     pub place-odd : (d k : ℕ) (r s : o .V) → k ≤ d → 0 < (d - k) % 2
-      → r ≡ o .times (sign o k) (coefficient o (product o f (alternate o f)) (k + k)) → s ≡ o .minus r
-      → s ≡ o .times (sign o d) (coefficient o (product o f (alternate o f)) (k + k))
+        → r ≡ o .times (sign o k) (coefficient o (product o f (alternate o f)) (k + k)) → s ≡ o .minus r
+        → s ≡ o .times (sign o d) (coefficient o (product o f (alternate o f)) (k + k))
     place-odd d k r s h e er es =
         let C = coefficient o (product o f (alternate o f)) (k + k) in
         let twice : d + k ≡ suc ((k + (d - k) / 2) + (k + (d - k) / 2)) = omega arith in
@@ -185,7 +194,7 @@ module _ (o : Ops) (L : Lawful o) where
   coefficient-evens (a ∷ (b ∷ f)) (suc k) = simp (suc-add, add-suc) (coefficient-evens f k)
 
   pub coefficient-transform : (f : List (o .V)) (k : ℕ)
-    → coefficient o (transform o f) k ≡ o .times (sign o (length f - 1)) (coefficient o (product o f (alternate o f)) (k + k))
+      → coefficient o (transform o f) k ≡ o .times (sign o (length f - 1)) (coefficient o (product o f (alternate o f)) (k + k))
   coefficient-transform f k =
       coefficient-evens (scale o (sign o (length f - 1)) (product o f (alternate o f))) k
       ∙ coefficient-scale o L (sign o (length f - 1)) (product o f (alternate o f)) (k + k)
@@ -202,8 +211,8 @@ module _ (o : Ops) (L : Lawful o) where
 
   -- coefficients that are those of (-1)^d f(x) f(-x) at the even places make the transform
   graeffe-from : (f g : List (o .V)) → 0 < length f → length g ≡ length f
-    → ((k : ℕ) → k < length f → coefficient o g k ≡ o .times (sign o (length f - 1)) (coefficient o (product o f (alternate o f)) (k + k)))
-    → Graeffe o f g
+      → ((k : ℕ) → k < length f → coefficient o g k ≡ o .times (sign o (length f - 1)) (coefficient o (product o f (alternate o f)) (k + k)))
+      → Graeffe o f g
   graeffe-from [] g pos e h = absurd (none pos)
     where
       none : 0 < 0 → ⊥
@@ -216,23 +225,29 @@ module _ (o : Ops) (L : Lawful o) where
     where
       s : o .V
       s = sign o (length (a ∷ f) - 1)
+
       P : List (o .V)
       P = product o (a ∷ f) (alternate o (a ∷ f))
+
       long-P : length P ≡ suc (length f + length f)
       long-P = long-product a f
+
       long : length (spread o (b ∷ g)) ≡ length (scale o s P)
       long = length-spread o L b g ∙ omega (arith, length-map P (o .times s), long-P, e)
+
       even : (k : ℕ) → coefficient o (spread o (b ∷ g)) (k + k) ≡ coefficient o (scale o s P) (k + k)
       even k =
           coefficient-spread-even o L (b ∷ g) k
           ∙ ⊎-elim (λ l. h k l)
-              (λ l. getD-past (b ∷ g) k (o .nought) (omega (arith, e))
-                ∙ sym (ap (o .times s) (getD-past P (k + k) (o .nought) (omega (arith, long-P))) ∙ times-nought o L s))
-              (cases-lt k (length (a ∷ f)))
+          (λ l. getD-past (b ∷ g) k (o .nought) (omega (arith, e))
+          ∙ sym (ap (o .times s) (getD-past P (k + k) (o .nought) (omega (arith, long-P))) ∙ times-nought o L s))
+          (cases-lt k (length (a ∷ f)))
           ∙ sym (coefficient-scale o L s P (k + k))
+
       odd : (k : ℕ) → coefficient o (spread o (b ∷ g)) (suc (k + k)) ≡ coefficient o (scale o s P) (suc (k + k))
       odd k = coefficient-spread-odd o L (b ∷ g) k
           ∙ sym (coefficient-scale o L s P (suc (k + k)) ∙ ap (o .times s) (odd-place (a ∷ f) k) ∙ times-nought o L s)
+
       places : (n : ℕ) → coefficient o (spread o (b ∷ g)) n ≡ coefficient o (scale o s P) n
       places n = ⊎-elim (λ p. rw (p .1) (even (p .0))) (λ p. rw (p .1) (odd (p .0))) (halves n)
 

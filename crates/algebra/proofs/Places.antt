@@ -15,7 +15,7 @@ read-value value f i x d h is = ap value is ∙ sym (getD-map value f i x d h)
 
 -- a loop that writes at each place i an x of which P i holds
 pub place-more : {X : Type 0} (P : ℕ → X → Type 0) (xs : List X) (i : ℕ) (x : X) → i < length xs → P i x
-  → ((k : ℕ) (d : X) → k < i → P k (getD xs k d)) → (k : ℕ) (d : X) → k < i + 1 → P k (getD (set xs i x) k d)
+    → ((k : ℕ) (d : X) → k < i → P k (getD xs k d)) → (k : ℕ) (d : X) → k < i + 1 → P k (getD (set xs i x) k d)
 place-more P xs i x inside here before k d h =
     below-more (λ j. P j (getD (set xs i x) j d)) i
     (λ j l. let ne : j ≢ i = omega arith in rw getD-set-other (before j d l))
@@ -23,7 +23,7 @@ place-more P xs i x inside here before k d h =
 
 -- a place of the front of a slice, as a value
 pub front-value : {S V : Type 0} (value : S → V) (out : List S) (n k : ℕ) (v e : V) → k < n → n ≤ length out
-  → ((d : S) → value (getD out k d) ≡ v) → getD (map value (take n out)) k e ≡ v
+    → ((d : S) → value (getD out k d) ≡ v) → getD (map value (take n out)) k e ≡ v
 front-value value [] n k v e h long at = let none : ⊥ = omega arith in absurd none
 front-value value (x ∷ xs) n k v e h long at =
     getD-map value (take n (x ∷ xs)) k x e (omega (arith, length-take n (x ∷ xs))) ∙ ap value (getD-take n (x ∷ xs) k x h) ∙ at x

@@ -39,21 +39,26 @@ module _ (o : Ops) (L : Lawful o) where
   eval-product [] g x = sym (nought-times o L (eval o g x))
   eval-product (a ∷ f) g x =
       eval-sum (scale o a g) (o .nought ∷ product o f g) x
-      ∙ cc (eval-scale a g x, nought-plus o L (o .times x (eval o (product o f g) x)), eval-product f g x,
-            L .times-assoc x (eval o f x) (eval o g x), plus-times o L a (o .times x (eval o f x)) (eval o g x))
+      ∙ cc (
+        eval-scale a g x,
+        nought-plus o L (o .times x (eval o (product o f g) x)),
+        eval-product f g x,
+        L .times-assoc x (eval o f x) (eval o g x),
+        plus-times o L a (o .times x (eval o f x)) (eval o g x),
+      )
 
   pub eval-alternate : (f : List (o .V)) (x : o .V) → eval o (alternate o f) x ≡ eval o f (o .minus x)
   eval-alternate [] x = refl
   eval-alternate (a ∷ f) x =
       ap (o .plus a) (ap (o .times x) (eval-minus (alternate o f) x ∙ ap (o .minus) (eval-alternate f x))
-        ∙ times-minus o L x (eval o f (o .minus x)) ∙ sym (minus-times o L x (eval o f (o .minus x))))
+      ∙ times-minus o L x (eval o f (o .minus x)) ∙ sym (minus-times o L x (eval o f (o .minus x))))
 
   pub eval-spread : (g : List (o .V)) (x : o .V) → eval o (spread o g) x ≡ eval o g (o .times x x)
   eval-spread [] x = refl
   eval-spread (a ∷ []) x = ap (o .plus a) (times-nought o L x ∙ sym (times-nought o L (o .times x x)))
   eval-spread (a ∷ (b ∷ g)) x =
       ap (o .plus a) (ap (o .times x) (nought-plus o L (o .times x (eval o (spread o (b ∷ g)) x)) ∙ ap (o .times x) (eval-spread (b ∷ g) x))
-        ∙ sym (L .times-assoc x x (eval o (b ∷ g) (o .times x x))))
+      ∙ sym (L .times-assoc x x (eval o (b ∷ g) (o .times x x))))
 
   -- coefficients
 
@@ -84,19 +89,24 @@ module _ (o : Ops) (L : Lawful o) where
       ∙ sym (minus-times o L (sign o k) (coefficient o f k)) ∙ ap (λ t. o .times t (coefficient o f k)) (sym (sign-suc k))
 
   pub coefficient-product : (f g : List (o .V)) (n : ℕ)
-    → coefficient o (product o f g) n ≡ total o (λ i. o .times (coefficient o f i) (coefficient o g (n - i))) (suc n)
+      → coefficient o (product o f g) n ≡ total o (λ i. o .times (coefficient o f i) (coefficient o g (n - i))) (suc n)
   coefficient-product [] g n = sym (total-nought o L (λ i. o .times (o .nought) (coefficient o g (n - i))) (suc n) (λ i _. nought-times o L (coefficient o g (n - i))))
   coefficient-product (a ∷ f) g zero =
       coefficient-sum (scale o a g) (o .nought ∷ product o f g) zero ∙ L .plus-nought (coefficient o (scale o a g) zero)
       ∙ coefficient-scale a g zero ∙ sym (nought-plus o L (o .times a (coefficient o g zero)))
   coefficient-product (a ∷ f) g (suc n) =
       coefficient-sum (scale o a g) (o .nought ∷ product o f g) (suc n)
-      ∙ cc (coefficient-scale a g (suc n), coefficient-product f g n,
-            total-same o L (λ i. o .times (coefficient o f i) (coefficient o g (n - i))) (λ i. o .times (coefficient o f i) (coefficient o g (suc n - suc i))) (suc n) (λ i _. ap (λ k. o .times (coefficient o f i) (coefficient o g k)) (fewer n i)),
-            total-front o L (λ i. o .times (coefficient o (a ∷ f) i) (coefficient o g (suc n - i))) (suc n), ap (λ k. coefficient o g k) (none n))
+      ∙ cc (
+        coefficient-scale a g (suc n),
+        coefficient-product f g n,
+        total-same o L (λ i. o .times (coefficient o f i) (coefficient o g (n - i))) (λ i. o .times (coefficient o f i) (coefficient o g (suc n - suc i))) (suc n) (λ i _. ap (λ k. o .times (coefficient o f i) (coefficient o g k)) (fewer n i)),
+        total-front o L (λ i. o .times (coefficient o (a ∷ f) i) (coefficient o g (suc n - i))) (suc n),
+        ap (λ k. coefficient o g k) (none n),
+      )
     where
       fewer : (n i : ℕ) → n - i ≡ suc n - suc i
       fewer n i = omega arith
+
       none : (n : ℕ) → suc n - 0 ≡ suc n
       none n = omega arith
 

@@ -14,7 +14,6 @@ infixl 60 _⊝_
 infixl 70 _⊗_
 infix 80 ⊖_
 infixl 90 _↑_
-
 -- `v i` is the variable of the index i, and `num n` the sum of n ones
 pub data Expr : Type 0 where
   v : ℕ → Expr
@@ -152,21 +151,42 @@ module _ (o : Ops) (L : Lawful o) where
   times-swap a b c d = L .times-assoc a b (o .times c d) ∙ ap (o .times a) (times-left o L b c d) ∙ sym (L .times-assoc a c (o .times b d))
 
   coef-add : (p n p′ n′ : ℕ) → coef o (p + p′) (n + n′) ≡ o .plus (coef o p n) (coef o p′ n′)
-  coef-add p n p′ n′ = cc (number-add o L p p′, number-add o L n n′, minus-plus o L (number o n) (number o n′),
-      plus-swap (number o p) (number o p′) (o .minus (number o n)) (o .minus (number o n′)))
+  coef-add p n p′ n′ = cc (
+    number-add o L p p′,
+    number-add o L n n′,
+    minus-plus o L (number o n) (number o n′),
+    plus-swap (number o p) (number o p′) (o .minus (number o n)) (o .minus (number o n′)),
+  )
 
   cross : (a b c d : o .V) → o .times (o .plus a (o .minus b)) (o .plus c (o .minus d))
-    ≡ o .plus (o .plus (o .times a c) (o .times b d)) (o .minus (o .plus (o .times a d) (o .times b c)))
+      ≡ o .plus (o .plus (o .times a c) (o .times b d)) (o .minus (o .plus (o .times a d) (o .times b c)))
   cross a b c d =
       let c-d = o .plus c (o .minus d) in
       let ac = o .times a c in let ad = o .times a d in let bc = o .times b c in let bd = o .times b d in
-      cc (plus-times o L a (o .minus b) c-d, L .times-plus a c (o .minus d), times-minus o L a d, minus-times o L b c-d,
-          L .times-plus b c (o .minus d), times-minus o L b d, minus-plus o L bc (o .minus bd), minus-minus o L bd,
-          L .plus-comm (o .minus bc) bd, plus-swap ac (o .minus ad) bd (o .minus bc), minus-plus o L ad bc)
+      cc (
+        plus-times o L a (o .minus b) c-d,
+        L .times-plus a c (o .minus d),
+        times-minus o L a d,
+        minus-times o L b c-d,
+        L .times-plus b c (o .minus d),
+        times-minus o L b d,
+        minus-plus o L bc (o .minus bd),
+        minus-minus o L bd,
+        L .plus-comm (o .minus bc) bd,
+        plus-swap ac (o .minus ad) bd (o .minus bc),
+        minus-plus o L ad bc,
+      )
 
   coef-mul : (p n p′ n′ : ℕ) → coef o (p * p′ + n * n′) (p * n′ + n * p′) ≡ o .times (coef o p n) (coef o p′ n′)
-  coef-mul p n p′ n′ = cc (cross (number o p) (number o n) (number o p′) (number o n′), number-add o L (p * p′) (n * n′), number-add o L (p * n′) (n * p′),
-      number-times o L p p′, number-times o L n n′, number-times o L p n′, number-times o L n p′)
+  coef-mul p n p′ n′ = cc (
+    cross (number o p) (number o n) (number o p′) (number o n′),
+    number-add o L (p * p′) (n * n′),
+    number-add o L (p * n′) (n * p′),
+    number-times o L p p′,
+    number-times o L n n′,
+    number-times o L p n′,
+    number-times o L n p′,
+  )
 
   coef-neg : (p n : ℕ) → coef o n p ≡ o .minus (coef o p n)
   coef-neg p n = cc (minus-plus o L (number o p) (o .minus (number o n)), minus-minus o L (number o n), L .plus-comm (number o n) (o .minus (number o p)))
@@ -203,16 +223,21 @@ module _ (o : Ops) (L : Lawful o) (env : List (o .V)) where
       go false e = refl
 
   merge-poly : (p n : ℕ) (m : List ℕ) (r : Poly) (f : Poly → Poly) → ((q : Poly) → poly o env (f q) ≡ o .plus (poly o env r) (poly o env q))
-    → (q : Poly) → poly o env (merge p n m r f q) ≡ o .plus (poly o env (term p n m r)) (poly o env q)
+      → (q : Poly) → poly o env (merge p n m r f q) ≡ o .plus (poly o env (term p n m r)) (poly o env q)
   merge-poly p n m r f h none = sym (L .plus-nought (poly o env (term p n m r)))
   merge-poly p n m r f h (term p′ n′ m′ q) =
       let c = o .times (coef o p n) (mono o env m) in
       let c′ = o .times (coef o p′ n′) (mono o env m′) in
       pick-poly (order m m′) (term p n m (f (term p′ n′ m′ q))) (with-term (p + p′) (n + n′) m (f q)) (term p′ n′ m′ (merge p n m r f q)) _
-        (ap (o .plus c) (h (term p′ n′ m′ q)) ∙ sym (L .plus-assoc c (poly o env r) (poly o env (term p′ n′ m′ q))))
-        (λ e. with-term-poly (p + p′) (n + n′) m (f q) ∙ cc (coef-add o L p n p′ n′, order-same m m′ e, plus-times o L (coef o p n) (coef o p′ n′) (mono o env m), h q,
-            plus-swap o L c c′ (poly o env r) (poly o env q)))
-        (ap (o .plus c′) (merge-poly p n m r f h q) ∙ plus-left o L c′ (poly o env (term p n m r)) (poly o env q))
+      (ap (o .plus c) (h (term p′ n′ m′ q)) ∙ sym (L .plus-assoc c (poly o env r) (poly o env (term p′ n′ m′ q))))
+      (λ e. with-term-poly (p + p′) (n + n′) m (f q) ∙ cc (
+        coef-add o L p n p′ n′,
+        order-same m m′ e,
+        plus-times o L (coef o p n) (coef o p′ n′) (mono o env m),
+        h q,
+        plus-swap o L c c′ (poly o env r) (poly o env q),
+      ))
+      (ap (o .plus c′) (merge-poly p n m r f h q) ∙ plus-left o L c′ (poly o env (term p n m r)) (poly o env q))
 
   add-poly : (a b : Poly) → poly o env (add a b) ≡ o .plus (poly o env a) (poly o env b)
   add-poly none b = sym (nought-plus o L (poly o env b))
@@ -223,8 +248,13 @@ module _ (o : Ops) (L : Lawful o) (env : List (o .V)) where
   scale-poly p n m (term p′ n′ m′ q) =
       let c = o .times (coef o p n) (mono o env m) in
       let c′ = o .times (coef o p′ n′) (mono o env m′) in
-      cc (coef-mul o L p n p′ n′, joined-mono o L env m m′, times-swap o L (coef o p n) (coef o p′ n′) (mono o env m) (mono o env m′),
-          scale-poly p n m q, L .times-plus c c′ (poly o env q))
+      cc (
+        coef-mul o L p n p′ n′,
+        joined-mono o L env m m′,
+        times-swap o L (coef o p n) (coef o p′ n′) (mono o env m) (mono o env m′),
+        scale-poly p n m q,
+        L .times-plus c c′ (poly o env q),
+      )
 
   mul-poly : (a b : Poly) → poly o env (mul a b) ≡ o .times (poly o env a) (poly o env b)
   mul-poly none b = sym (nought-times o L (poly o env b))
@@ -262,7 +292,7 @@ module _ (o : Ops) (L : Lawful o) (env : List (o .V)) where
   vanishes-poly (term p n m r) e = go (vanishes-poly r) (eqb p n) (eqb→eq p n) e
     where
       go : (vanishes r ≡ true → poly o env r ≡ o .nought) → (b : Bool) → (T b → p ≡ n)
-        → elim b as (λ s. Bool) [ true ↦ vanishes r | false ↦ false ] ≡ true → poly o env (term p n m r) ≡ o .nought
+          → elim b as (λ s. Bool) [ true ↦ vanishes r | false ↦ false ] ≡ true → poly o env (term p n m r) ≡ o .nought
       go h true f d = cc (coef-same o L p n (f tt), nought-times o L (mono o env m), h d, L .plus-nought (o .nought))
       go h false f d = cc
 
@@ -271,7 +301,7 @@ module _ (o : Ops) (L : Lawful o) (env : List (o .V)) where
   solve a b t =
       let x = means o env a in let y = means o env b in
       plus-cancel o L (o .minus y) x y
-        (cc (sym (normal-poly (a ⊝ b)), vanishes-poly (normal (a ⊝ b)) t, L .plus-comm x (o .minus y), L .plus-comm y (o .minus y), L .plus-minus y))
+      (cc (sym (normal-poly (a ⊝ b)), vanishes-poly (normal (a ⊝ b)) t, L .plus-comm x (o .minus y), L .plus-comm y (o .minus y), L .plus-minus y))
 
   drop-multiple : (k a b : Expr) → means o env a ≡ means o env b → (x : o .V) → o .plus x (means o env (k ⊗ (a ⊝ b))) ≡ x
   drop-multiple k a b h x =
@@ -280,14 +310,14 @@ module _ (o : Ops) (L : Lawful o) (env : List (o .V)) where
 
   -- c ≡ d from a ≡ b, where c - d is k times a - b
   pub solve₁ : (c d : Expr) (k a b : Expr) → means o env a ≡ means o env b
-    → equal c (d ⊕ k ⊗ (a ⊝ b)) ≡ true → means o env c ≡ means o env d
+      → equal c (d ⊕ k ⊗ (a ⊝ b)) ≡ true → means o env c ≡ means o env d
   solve₁ c d k a b h t = solve c (d ⊕ k ⊗ (a ⊝ b)) t ∙ drop-multiple k a b h (means o env d)
 
   pub solve₂ : (c d : Expr) (k a b : Expr) → means o env a ≡ means o env b → (k′ a′ b′ : Expr) → means o env a′ ≡ means o env b′
-    → equal c (d ⊕ k ⊗ (a ⊝ b) ⊕ k′ ⊗ (a′ ⊝ b′)) ≡ true → means o env c ≡ means o env d
+      → equal c (d ⊕ k ⊗ (a ⊝ b) ⊕ k′ ⊗ (a′ ⊝ b′)) ≡ true → means o env c ≡ means o env d
   solve₂ c d k a b h k′ a′ b′ h′ t = solve₁ c (d ⊕ k ⊗ (a ⊝ b)) k′ a′ b′ h′ t ∙ drop-multiple k a b h (means o env d)
 
   pub solve₃ : (c d : Expr) (k a b : Expr) → means o env a ≡ means o env b → (k′ a′ b′ : Expr) → means o env a′ ≡ means o env b′
-    → (k″ a″ b″ : Expr) → means o env a″ ≡ means o env b″
-    → equal c (d ⊕ k ⊗ (a ⊝ b) ⊕ k′ ⊗ (a′ ⊝ b′) ⊕ k″ ⊗ (a″ ⊝ b″)) ≡ true → means o env c ≡ means o env d
+      → (k″ a″ b″ : Expr) → means o env a″ ≡ means o env b″
+      → equal c (d ⊕ k ⊗ (a ⊝ b) ⊕ k′ ⊗ (a′ ⊝ b′) ⊕ k″ ⊗ (a″ ⊝ b″)) ≡ true → means o env c ≡ means o env d
   solve₃ c d k a b h k′ a′ b′ h′ k″ a″ b″ h″ t = solve₂ c (d ⊕ k ⊗ (a ⊝ b)) k′ a′ b′ h′ k″ a″ b″ h″ t ∙ drop-multiple k a b h (means o env d)

@@ -35,10 +35,11 @@ module _ (o : Ops) (L : Lawful o) where
   total-reverse u (suc n) =
       ap (λ t. o .plus t (u n)) (total-reverse u n) ∙ L .plus-comm (total o (λ i. u (n - 1 - i)) n) (u n)
       ∙ sym (total-front (λ i. u (suc n - 1 - i)) n
-        ∙ cc (ap u (first n), total-same (λ i. u (suc n - 1 - suc i)) (λ i. u (n - 1 - i)) n (λ i l. ap u (next n i))))
+      ∙ cc (ap u (first n), total-same (λ i. u (suc n - 1 - suc i)) (λ i. u (n - 1 - i)) n (λ i l. ap u (next n i))))
     where
       first : (n : ℕ) → suc n - 1 - 0 ≡ n
       first n = omega arith
+
       next : (n i : ℕ) → suc n - 1 - suc i ≡ n - 1 - i
       next n i = omega arith
 

@@ -17,24 +17,39 @@ pub impl<R: Ring> Ring for Dual<R> as DualRing {
     ghost canonical = { λ x. R·Ring .canonical (x .re) × R·Ring .canonical (x .eps) };
 
     fn zero() -> Dual<R> {
-        Dual { re: R::zero(), eps: R::zero() }
+        Dual {
+            re: R::zero(),
+            eps: R::zero(),
+        }
     }
 
     fn one() -> Dual<R> {
-        Dual { re: R::one(), eps: R::zero() }
+        Dual {
+            re: R::one(),
+            eps: R::zero(),
+        }
     }
 
     fn add(self, other: Dual<R>) -> Dual<R> {
-        Dual { re: self.re.add(other.re), eps: self.eps.add(other.eps) }
+        Dual {
+            re: self.re.add(other.re),
+            eps: self.eps.add(other.eps),
+        }
     }
 
     fn mul(self, other: Dual<R>) -> Dual<R> {
         let cross = self.re.mul(other.eps).add(self.eps.mul(other.re));
-        Dual { re: self.re.mul(other.re), eps: cross }
+        Dual {
+            re: self.re.mul(other.re),
+            eps: cross,
+        }
     }
 
     fn neg(self) -> Dual<R> {
-        Dual { re: self.re.neg(), eps: self.eps.neg() }
+        Dual {
+            re: self.re.neg(),
+            eps: self.eps.neg(),
+        }
     }
 
     fn same(self, other: Dual<R>) -> bool {

@@ -41,7 +41,11 @@ pub fn graeffe_at<R: Ring>(f: &[R], k: usize) -> R
         return R::zero();
     }
     let term = middle(f, k);
-    if (f.len() - 1 - k) % 2 == 0 { term } else { term.neg() }
+    if (f.len() - 1 - k) % 2 == 0 {
+        term
+    } else {
+        term.neg()
+    }
 }
 
 // Writes the Graeffe transform of f into the front of out, and leaves the rest of it.

@@ -18,7 +18,7 @@ returns g c =
     let pos : 0 < F .order = omega (arith, laws .bounded .low) in
     record {
       means = c .from-code .ensures .means ∙ ap (λ m. R .value (F .at (c .args .n % m))) q
-        ∙ sym (laws .coded .ones (c .args .n % F .order) (mod-lt (c .args .n) pos))
-        ∙ number-mod (R .ring) (g .F·Ring·met .lawful) (F .order) (F .odd) (F .levels) (λ z. R .value (F .at z)) (R .value (F .zeta)) laws (c .args .n);
+          ∙ sym (laws .coded .ones (c .args .n % F .order) (mod-lt (c .args .n) pos))
+          ∙ number-mod (R .ring) (g .F·Ring·met .lawful) (F .order) (F .odd) (F .levels) (λ z. R .value (F .at z)) (R .value (F .zeta)) laws (c .args .n);
       held = c .from-code .ensures .held;
     }

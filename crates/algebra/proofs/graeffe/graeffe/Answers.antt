@@ -17,9 +17,10 @@ pub loop-k-again : need.loop-k-again
 loop-k-again g c =
     let R = g .R·Ring in
     let P : ℕ → _ → Type 0 = λ j x. (R .value x ≡ coefficient (R .ring) (transform (R .ring) (values R (c .args .f .now))) j) × R .canonical x in
-    let at = c .graeffe-at .ensures in
-    (place-more P (c .loop-k .out) (c .loop-k .k) (c .graeffe-at .result) (omega arith) (at .means, at .held) (c .loop-k .inv .0),
-     drop-set-lt _ _ _ _ (c .loop-k-test .taken) ∙ c .loop-k .inv .1)
+    let at = c .graeffe-at .ensures in (
+      place-more P (c .loop-k .out) (c .loop-k .k) (c .graeffe-at .result) (omega arith) (at .means, at .held) (c .loop-k .inv .0),
+      drop-set-lt _ _ _ _ (c .loop-k-test .taken) ∙ c .loop-k .inv .1,
+    )
 
 pub returns : need.returns
 returns g c =
@@ -30,10 +31,10 @@ returns g c =
     let out = c .loop-k .out in
     let n = length f in
     let written : values R (take n out) ≡ transform o (values R f) =
-        ext-getD (o .nought) _ _
-          (length-map (take n out) (R .value) ∙ omega (arith, length-take n out, length-transform o L (values R f), length-map f (R .value)))
-          (λ k h. front-value (R .value) out n k _ (o .nought) (omega (arith, length-take n out, length-map (take n out) (R .value))) (omega arith)
-            (λ d. c .loop-k .inv .0 k d (omega (arith, length-take n out, length-map (take n out) (R .value))) .0)) in
+    ext-getD (o .nought) _ _
+    (length-map (take n out) (R .value) ∙ omega (arith, length-take n out, length-transform o L (values R f), length-map f (R .value)))
+    (λ k h. front-value (R .value) out n k _ (o .nought) (omega (arith, length-take n out, length-map (take n out) (R .value))) (omega arith)
+    (λ d. c .loop-k .inv .0 k d (omega (arith, length-take n out, length-map (take n out) (R .value))) .0)) in
     record {
       answers = grind (arith, tells);
       leaves = record {

@@ -15,8 +15,8 @@ returns-then-k-f g c =
     let f = values R (c .args .f .now) in
     record {
       means = c .zero .ensures .means
-        ∙ sym (getD-past (transform (R .ring) f) (c .args .k) (R .ring .nought)
-            (omega (arith, length-transform (R .ring) (g .R·Ring·met .lawful) f, length-map (c .args .f .now) (R .value))));
+          ∙ sym (getD-past (transform (R .ring) f) (c .args .k) (R .ring .nought)
+          (omega (arith, length-transform (R .ring) (g .R·Ring·met .lawful) f, length-map (c .args .f .now) (R .value))));
       held = c .zero .ensures .held;
     }
 
@@ -29,7 +29,7 @@ returns-then-f-k-eq0 g c =
     let long : length f ≡ length (c .args .f .now) = length-map (c .args .f .now) (R .value) in
     record {
       means = place-even o L f (length f - 1) (c .args .k) (R .value (c .middle-term .result)) (omega arith) (omega arith) (c .middle-term .ensures .means)
-        ∙ sym (coefficient-transform o L f (c .args .k));
+          ∙ sym (coefficient-transform o L f (c .args .k));
       held = c .middle-term .ensures .held;
     }
 
@@ -43,6 +43,6 @@ returns-else-f-k-eq0 g c =
     record {
       means = place-odd o L f (length f - 1) (c .args .k) (R .value (c .middle-term .result)) (R .value (c .neg .result)) (omega arith) (omega arith)
           (c .middle-term .ensures .means) (c .neg .ensures .means)
-        ∙ sym (coefficient-transform o L f (c .args .k));
+          ∙ sym (coefficient-transform o L f (c .args .k));
       held = c .neg .ensures .held;
     }

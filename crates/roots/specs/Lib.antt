@@ -1,0 +1,10 @@
+pub mod Lists
+pub mod Division
+pub mod Slopes
+pub mod Tangents
+pub mod Codes
+pub mod Rows
+pub mod Roots
+pub mod Verdicts
+pub mod Reaching
+pub mod Searches
