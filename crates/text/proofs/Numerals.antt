@@ -17,7 +17,6 @@ use Rattle.std.specs.Reads.{ReadsUnsigned}
 use Rattle.std.specs.Results.{okPart}
 use Rattle.std.specs.shelf.Text.{allDigits}
 use Rattle.std.proofs.shelf.Numerals.{Numerals, numerals-by-fold, parse-plain}
-use Rattle.std.proofs.shelf.Lists.{nil-from-length}
 use Rattle.std.proofs.shelf.Tests.{and-from, and-parts, and-right, lt-ltb, cases-bool, cond-true, cond-false}
 use borrow.Author.Tests.{ltb-true}
 use Rattle.std.specs.shelf.Text.{sameBytes}
@@ -53,10 +52,6 @@ of-converted w (Err e) h =
 
 pub number-parsed : {E : Type 0} (w : List ℕ) (r : Result ℕ E) → ReadsUnsigned 32 10 w r → (getD w 0 0 ≡ 43 → ⊥) → okPart r ≡ number-of w
 number-parsed w r h plain = of-converted w r (parse-plain own 32 w r h plain)
-
-pub number-empty : (w : List ℕ) → length w ≡ 0 → None ≡ number-of w
-unfolding number-of
-number-empty w e = rw (nil-from-length w e) refl
 
 pub number-signed : (w : List ℕ) → getD w 0 0 ≡ 43 → None ≡ number-of w
 unfolding number-of

@@ -18,8 +18,7 @@ use std::alloc::Global;
 pub fn number(word: &str) -> Option<u32>
     ensures { λ r. ⌜ r ≡ number-of (now (word .entry)) ⌝ }
 {
-    let bytes = word.as_bytes();
-    if bytes.is_empty() || bytes[0] == b'+' {
+    if word.starts_with('+') {
         return None;
     }
     word.parse::<u32>().ok()
