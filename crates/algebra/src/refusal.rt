@@ -1,3 +1,7 @@
+ghost use mathlib.Core.Path.{_≡_};
+ghost use Rattle.std.specs.Vec.{listOf};
+ghost use Rattle.algebra.specs.Refusals.{answer};
+
 // Why a call was refused. Each has its number and values by `answer` in specs/Refusals.antt.
 #[derive(Clone, Copy, PartialEq, Eq, Debug)]
 pub enum Refusal {
@@ -13,4 +17,20 @@ pub enum Refusal {
     Top,
     // a level of the tower that is 0 or above the field's; the level
     Level(u32),
+}
+
+impl Refusal {
+    // The refusal's number and the value that it carries, if any.
+    pub fn told(self) -> (u32, Option<u64>)
+        ensures { λ r. ⌜ answer self ≡ (r .0, listOf (r .1)) ⌝ }
+    {
+        match self {
+            Refusal::Code(code) => (2, Some(code as u64)),
+            Refusal::Short(needed) => (6, Some(needed as u64)),
+            Refusal::Length(length) => (8, Some(length as u64)),
+            Refusal::Coefficient(place) => (9, Some(place as u64)),
+            Refusal::Top => (10, None),
+            Refusal::Level(level) => (11, Some(level as u64)),
+        }
+    }
 }

@@ -40,8 +40,9 @@ pub fn pairs<F: Field>(heap: Global, duals: &[Dual<F>]) -> Result<String, AllocE
 pub fn refused(heap: Global, why: Refusal) -> Result<String, AllocError>
     ensures { λ r. ⌜ made r (λ s. string-bytes s ≡ refusal-text (answer why)) ⌝ }
 {
-    match why {
-        Refusal::Short(n) => format!(heap, "refused 6 {n}"),
-        Refusal::Length(n) => format!(heap, "refused 8 {n}"),
+    let (number, value) = why.told();
+    match value {
+        Some(value) => format!(heap, "refused {number} {value}"),
+        None => format!(heap, "refused {number}"),
     }
 }
