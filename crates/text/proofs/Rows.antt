@@ -9,7 +9,7 @@ use Rattle.std.specs.declared.option.Option.the-variants.{Some, None}
 use Rattle.std.proofs.shelf.Lists.{at-drop-more, at-drop-all}
 use Rattle.std.proofs.shelf.Lists.{map-push, map-more, getD-read, joined-more}
 use Rattle.std.proofs.shelf.Elements.{all-push}
-use Rattle.text.specs.Numbers.{both, first-of, all-of}
+use Rattle.text.specs.Numbers.{both, put-first, all-of}
 use Rattle.std.specs.shelf.Lists.{joined}
 use Rattle.text.specs.Elements.{Named, Shown}
 
@@ -30,20 +30,20 @@ module _ {X Y : Type 0} (f : X → Option Y) where
       whole (Some ys) = refl
       whole None = refl
 
-  onto-first : (read : List Y) (y : Y) (o : Option (List Y)) → onto read (first-of (both (Some y) o)) ≡ onto (read ++ (y ∷ [])) o
-  onto-first read y (Some ys) = ap Some (sym (append-assoc read (y ∷ []) ys))
-  onto-first read y None = refl
+  onto-put : (read : List Y) (y : Y) (o : Option (List Y)) → onto read (put-first (both (Some y) o)) ≡ onto (read ++ (y ∷ [])) o
+  onto-put read y (Some ys) = ap Some (sym (append-assoc read (y ∷ []) ys))
+  onto-put read y None = refl
 
   pub so-more : (row : List X) (i : ℕ) (read : List Y) (y : Y) (d : X) → i < length row → f (getD row i d) ≡ Some y → So f row i read → So f row (i + 1) (read ++ (y ∷ []))
   unfolding all-of
   so-more row i read y d l e so =
-      so ∙ ap (onto read) (at-drop-more (all-of f) row i d l ∙ ap (λ o. first-of (both o (all-of f (drop (i + 1) row)))) e)
-      ∙ onto-first read y (all-of f (drop (i + 1) row))
+      so ∙ ap (onto read) (at-drop-more (all-of f) row i d l ∙ ap (λ o. put-first (both o (all-of f (drop (i + 1) row)))) e)
+      ∙ onto-put read y (all-of f (drop (i + 1) row))
 
   pub so-stops : (row : List X) (i : ℕ) (read : List Y) (d : X) → i < length row → f (getD row i d) ≡ None → So f row i read → all-of f row ≡ None
   unfolding all-of
   so-stops row i read d l e so =
-      so ∙ ap (onto read) (at-drop-more (all-of f) row i d l ∙ ap (λ o. first-of (both o (all-of f (drop (i + 1) row)))) e)
+      so ∙ ap (onto read) (at-drop-more (all-of f) row i d l ∙ ap (λ o. put-first (both o (all-of f (drop (i + 1) row)))) e)
 
   pub so-all : (row : List X) (i : ℕ) (read : List Y) → length row ≤ i → So f row i read → all-of f row ≡ Some read
   unfolding all-of

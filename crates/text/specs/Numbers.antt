@@ -25,11 +25,12 @@ number-of w = cond (numeral w) (Some (read-on 0 w)) None
 abbrev pub length-of : List ℕ → ℕ → Option ℕ
 length-of w needed = cond (sameBytes w (45 ∷ [])) (Some needed) (number-of w)
 
--- the parts before and after the first colon
+-- c goes before the first part
 abbrev pub before-colon : ℕ → Option (List ℕ × List ℕ) → Option (List ℕ × List ℕ)
 before-colon c (Some p) = Some (c ∷ p .0, p .1)
 before-colon c None = None
 
+-- the parts before and after the first colon
 abbrev pub cut : List ℕ → Option (List ℕ × List ℕ)
 cut [] = None
 cut (c ∷ cs) = cond (eqb c 58) (Some ([], cs)) (before-colon c (cut cs))
@@ -48,11 +49,12 @@ both-of None = None
 unfoldable pub pair-of : List ℕ → Option (ℕ × ℕ)
 pair-of w = both-of (cut w)
 
--- what each of the list stands for, where each stands for something
-abbrev pub first-of : {Y : Type 0} → Option (Y × List Y) → Option (List Y)
-first-of (Some p) = Some (p .0 ∷ p .1)
-first-of None = None
+-- a first before the others
+abbrev pub put-first : {Y : Type 0} → Option (Y × List Y) → Option (List Y)
+put-first (Some p) = Some (p .0 ∷ p .1)
+put-first None = None
 
+-- what each of the list stands for, where each stands for something
 unfoldable pub all-of : {X Y : Type 0} → (X → Option Y) → List X → Option (List Y)
 all-of f [] = Some []
-all-of f (x ∷ xs) = first-of (both (f x) (all-of f xs))
+all-of f (x ∷ xs) = put-first (both (f x) (all-of f xs))
