@@ -1,13 +1,17 @@
+use crate::lent::zeros;
 use algebra::dual::Dual;
 use algebra::dual::DualRing;
 use algebra::field::Field;
 use algebra::graeffe::graeffe;
-use crate::lent::zeros;
 use std::alloc::AllocError;
 use std::alloc::Global;
 
 // The Graeffe transform of the elements of the codes, in an output of the length asked for.
-pub fn double<F: Field + Drop>(heap: Global, out: &str, codes: &[&str]) -> Result<Option<String>, AllocError> {
+pub fn double<F: Field + Drop>(
+    heap: Global,
+    out: &str,
+    codes: &[&str],
+) -> Result<Option<String>, AllocError> {
     let Some(codes) = text::read::numbers(heap, codes)? else {
         return Ok(None);
     };
@@ -23,7 +27,11 @@ pub fn double<F: Field + Drop>(heap: Global, out: &str, codes: &[&str]) -> Resul
 }
 
 // The Graeffe transform of dual numbers.
-pub fn pairs<F: Field + Drop>(heap: Global, out: &str, words: &[&str]) -> Result<Option<String>, AllocError> {
+pub fn pairs<F: Field + Drop>(
+    heap: Global,
+    out: &str,
+    words: &[&str],
+) -> Result<Option<String>, AllocError> {
     let Some(f) = text::read::pairs::<F>(heap, words)? else {
         return Ok(None);
     };

@@ -43,7 +43,10 @@ fn over<F: Field + Drop>(heap: Global, codes: &[u32]) -> Result<String, AllocErr
 fn told(heap: Global, line: &str) -> Result<String, AllocError> {
     let words = text::read::words(heap, line)?;
     let Some(codes) = text::read::numbers(heap, words.as_slice())? else {
-        return format!(heap, "{line}\n  not a row of decimal numbers of at most 32 bits");
+        return format!(
+            heap,
+            "{line}\n  not a row of decimal numbers of at most 32 bits"
+        );
     };
     let small = over::<Seventeen>(heap, codes.as_slice())?;
     let large = over::<Residue>(heap, codes.as_slice())?;
