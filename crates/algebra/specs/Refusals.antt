@@ -6,15 +6,20 @@ use lib.Dec.{eqb, ltb}
 use Rattle.std.specs.declared.result.Result.{Result}
 use Rattle.std.specs.declared.result.Result.the-variants.{Ok, Err}
 use Rattle.algebra.specs.declared.refusal.Refusal.{Refusal}
-use Rattle.algebra.specs.declared.refusal.Refusal.the-variants.{Code, Short, Length, Coefficient, Top, Level}
+use Rattle.algebra.specs.declared.refusal.Refusal.the-variants.{Frame, Code, Quantity, Full, Unlike, Short, Length, Coefficient, Top, Level, Job}
 
 abbrev pub answer : Refusal → ℕ × List ℕ
+answer Frame = (1, [])
 answer (Code c) = (2, c ∷ [])
+answer Quantity = (3, [])
+answer (Full t) = (4, t ∷ [])
+answer Unlike = (5, [])
 answer (Short n) = (6, n ∷ [])
 answer (Length n) = (8, n ∷ [])
 answer (Coefficient i) = (9, i ∷ [])
 answer Top = (10, [])
 answer (Level k) = (11, k ∷ [])
+answer (Job i) = (15, i ∷ [])
 
 -- what an accepted call tells
 abbrev pub accepted : ℕ × List ℕ

@@ -1,0 +1,5 @@
+pub mod Contents
+pub mod Bodies
+pub mod Logs
+pub mod Nets
+pub mod Reach
