@@ -1,4 +1,6 @@
+use algebra::code::Code;
 use algebra::ring::Ring;
+use roots::record::RootRecord;
 use std::alloc::AllocError;
 use std::alloc::Global;
 
@@ -9,4 +11,16 @@ pub fn zeros<R: Ring + Drop>(heap: Global, n: usize) -> Result<Vec<R>, AllocErro
         row.push(R::zero())?;
     }
     Ok(row)
+}
+
+// A list of n records, to be lent to a call.
+pub fn records(heap: Global, n: usize) -> Result<Vec<RootRecord>, AllocError> {
+    let mut list = Vec::new(heap);
+    for _ in 0..n {
+        list.push(RootRecord {
+            code: Code(0),
+            multiplicity: 0,
+        })?;
+    }
+    Ok(list)
 }

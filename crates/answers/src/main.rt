@@ -1,5 +1,8 @@
 // Answers questions, one a line, each over one of the two fields. A line that is no question is answered `error`.
 mod lent;
+mod lifted;
+mod listed;
+mod tangent;
 mod transform;
 
 use algebra::field::Field;
@@ -24,6 +27,9 @@ fn over<F: Field + Drop>(heap: Global, words: &[&str]) -> Result<Option<String>,
     match words[0] {
         "double" => transform::double::<F>(heap, words[2], rest),
         "pairs" => transform::pairs::<F>(heap, words[2], rest),
+        "tangent" => tangent::tangent::<F>(heap, words[2], rest),
+        "lift" => lifted::lifted::<F>(heap, &words[2..]),
+        "roots" => listed::listed::<F>(heap, &words[2..]),
         _ => Ok(None),
     }
 }

@@ -49,6 +49,17 @@ pub fn numbers(heap: Global, words: &[&str]) -> Result<Option<Vec<u32>>, AllocEr
     Ok(Some(all))
 }
 
+// The numbers as codes, whether or not they are codes of a field.
+pub fn codes(heap: Global, numbers: &[u32]) -> Result<Vec<Code>, AllocError>
+    ensures { λ r. ⌜ made r (λ v. map (λ c. c .0) (vec-items v) ≡ now (numbers .entry)) ⌝ }
+{
+    let mut all = Vec::new(heap);
+    for n in numbers {
+        all.push(Code(*n))?;
+    }
+    Ok(all)
+}
+
 // The elements of a row of codes.
 pub fn elements<F: Field + Drop>(heap: Global, codes: &[u32]) -> Result<Vec<F>, AllocError>
     ensures { λ r. ⌜ made r (λ v. Named (F·Ring .value) (F·Ring .canonical) (λ c. F·Ring .value (F·Field .at c)) (now (codes .entry)) (vec-items v)) ⌝ }
