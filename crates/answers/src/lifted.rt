@@ -8,10 +8,7 @@ use std::alloc::AllocError;
 use std::alloc::Global;
 
 // The words of a question: the length of the work space, the level, the code to lift, and the coefficients.
-pub fn lifted<F: Field + Drop>(
-    heap: Global,
-    words: &[&str],
-) -> Result<Option<String>, AllocError> {
+pub fn lifted<F: Field + Drop>(heap: Global, words: &[&str]) -> Result<Option<String>, AllocError> {
     if words.len() < 3 {
         return Ok(None);
     }

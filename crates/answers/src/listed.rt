@@ -11,10 +11,7 @@ use std::alloc::AllocError;
 use std::alloc::Global;
 
 // The words of a question: the lengths of the list and of the work space, then the coefficients.
-pub fn listed<F: Field + Drop>(
-    heap: Global,
-    words: &[&str],
-) -> Result<Option<String>, AllocError> {
+pub fn listed<F: Field + Drop>(heap: Global, words: &[&str]) -> Result<Option<String>, AllocError> {
     if words.len() < 2 {
         return Ok(None);
     }
