@@ -7,14 +7,13 @@ use std::alloc::Global;
 // A refusal in words.
 pub fn refusal(heap: Global, why: Refusal) -> Result<String, AllocError> {
     match why {
-        Refusal::Code(code) => format!(heap, "{code} is no code of this field"),
         Refusal::Short(needed) => format!(heap, "too little room, where {needed} are needed"),
         Refusal::Length(n) => format!(heap, "{n} coefficients, where 1 to 257 are taken"),
         Refusal::Coefficient(place) => {
             format!(heap, "the coefficient at {place} is no code of this field")
         }
         Refusal::Top => String::from_str(heap, "the top coefficient is zero"),
-        Refusal::Level(level) => format!(heap, "there is no level {level}"),
+        other => text::write::refused(heap, other),
     }
 }
 
