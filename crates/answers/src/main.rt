@@ -2,6 +2,7 @@
 mod lent;
 mod lifted;
 mod listed;
+mod tallies;
 mod tangent;
 mod transform;
 
@@ -30,6 +31,8 @@ fn over<F: Field + Drop>(heap: Global, words: &[&str]) -> Result<Option<String>,
         "tangent" => tangent::tangent::<F>(heap, words[2], rest),
         "lift" => lifted::lifted::<F>(heap, &words[2..]),
         "roots" => listed::listed::<F>(heap, &words[2..]),
+        "log" => tallies::log::<F>(heap, &words[2..]),
+        "compare" => tallies::compare::<F>(heap, &words[2..]),
         _ => Ok(None),
     }
 }

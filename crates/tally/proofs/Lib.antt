@@ -6,3 +6,4 @@ pub mod Wholes
 pub mod Nets
 pub mod Netting
 pub mod Comparing
+pub mod Restoring
