@@ -24,6 +24,10 @@ polynomial R F cs = map (λ c. element R F (c .0)) cs
 abbrev pub dualized : {S : Type 0} (R : RingOf S) → Dual S → R .ring .V × R .ring .V
 dualized R x = (R .value (x .re), R .value (x .eps))
 
+-- both parts are in canonical form
+abbrev pub Held : {S : Type 0} (R : RingOf S) → Dual S → Type 0
+Held R x = R .canonical (x .re) × R .canonical (x .eps)
+
 abbrev pub duals : {S : Type 0} (R : RingOf S) → List (Dual S) → List (R .ring .V × R .ring .V)
 duals R xs = map (dualized R) xs
 

@@ -19,7 +19,7 @@ loop-k-holds g c j h =
     let T = tangent (R .ring) (polynomial R (g .F·Field) (c .args .codes .now)) in
     let none : j ≡ 0 = omega arith in
     ap (λ i. duals R (take n (drop (i * n) (c .start .last .work)))) none ∙ ap (λ i. duals R (take n (drop i (c .start .last .work)))) (zero-mul n)
-    ∙ c .start .ensures ∙ ap (tower (dual (R .ring)) T) (sym none)
+    ∙ c .start .ensures .written ∙ ap (tower (dual (R .ring)) T) (sym none)
 
 pub climb-requires : need.climb-requires
 climb-requires g c κs =

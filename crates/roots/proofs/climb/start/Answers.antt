@@ -1,4 +1,4 @@
-use mathlib.Core.Path.{_≡_, refl, sym, ap, ap₂, _∙_}
+use mathlib.Core.Path.{_≡_, refl, sym, ap, ap₂, _∙_, subst}
 use mathlib.Core.List.{map}
 use Prim.Native.Nat.{ℕ, suc, _+_, _<_, _≤_}
 use native.Mathlib.Numerals.{add-one}
@@ -9,7 +9,7 @@ use Rattle.std.proofs.shelf.Lists.{getD-map, getD-past}
 use Rattle.algebra.specs.Rings.{number}
 use Rattle.algebra.specs.Polynomials.{coefficient}
 use Rattle.algebra.proofs.Rings.{times-nought}
-use Rattle.roots.specs.Codes.{element, polynomial, dualized}
+use Rattle.roots.specs.Codes.{element, polynomial, dualized, Held}
 use Rattle.roots.specs.Tangents.{tangent}
 use Rattle.roots.proofs.Slopes.{pair-path}
 use Rattle.roots.proofs.Segments.{segment-more, segment-is}
@@ -42,8 +42,14 @@ loop-i-again g c =
           ap (R .value) (w .eps-is) ∙ w .zero-eps .ensures .means
           ∙ sym (ap (o .times (number o (suc i))) (getD-past f (suc i) (o .nought) (omega (arith, w .if-i-n .left))) ∙ times-nought o (g .F·Ring·met .lawful) (number o (suc i)))
     ] in
-    segment-more (λ j x. dualized R x ≡ (coefficient o f j, o .times (number o (suc j)) (coefficient o f (suc j)))) (c .loop-i .work) (c .args .at) i _ (omega arith)
-    (pair-path re eps) (c .loop-i .inv)
+    let held : R .canonical (c .if-i-n .eps) = elim (c .if-i-n .came) [
+      | then-i-n w ↦ subst (R .canonical) (sym (w .eps-is)) (w .mul-eps .ensures .held)
+      | else-i-n w ↦ subst (R .canonical) (sym (w .eps-is)) (w .zero-eps .ensures .held)
+    ] in (
+      segment-more (λ j x. dualized R x ≡ (coefficient o f j, o .times (number o (suc j)) (coefficient o f (suc j)))) (c .loop-i .work) (c .args .at) i _ (omega arith)
+          (pair-path re eps) (c .loop-i .inv .0),
+      segment-more (λ _ x. Held R x) (c .loop-i .work) (c .args .at) i _ (omega arith) (c .from-code-in-loop-i .ensures .held, held) (c .loop-i .inv .1),
+    )
 
 pub returns : need.returns
 returns g c =
@@ -53,5 +59,8 @@ returns g c =
     let cs = c .args .codes .now in
     let f = polynomial R (g .F·Field) cs in
     let long : length f ≡ length cs = length-map cs (λ x. element R (g .F·Field) (x .0)) in
-    segment-is (dualized R) (c .loop-i .work) (c .args .at) (length cs) (omega arith) (tangent o f) (o .nought, o .nought) (length-tangent o L f ∙ long)
-    (λ k d h. c .loop-i .inv k d (omega arith) ∙ sym (tangent-place o L f k (omega arith)))
+    record {
+      written = segment-is (dualized R) (c .loop-i .work) (c .args .at) (length cs) (omega arith) (tangent o f) (o .nought, o .nought) (length-tangent o L f ∙ long)
+          (λ k d h. c .loop-i .inv .0 k d (omega arith) ∙ sym (tangent-place o L f k (omega arith)));
+      held = λ j d h. c .loop-i .inv .1 j d (omega arith);
+    }

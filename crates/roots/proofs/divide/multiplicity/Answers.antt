@@ -22,7 +22,7 @@ loop-e-holds g c =
     let L = g .F·Ring·met .lawful in
     let work = c .start .last .work in
     let all : length (c .args .codes .now) - 0 ≡ length (c .args .codes .now) = omega arith in (
-      ap (λ m. map (λ x. R .value (x .re)) (take m work)) all ∙ row-reals R L (take (length (c .args .codes .now)) work) ∙ ap reals (c .start .ensures) ∙ tangent-reals (R .ring) L _,
+      ap (λ m. map (λ x. R .value (x .re)) (take m work)) all ∙ row-reals R L (take (length (c .args .codes .now)) work) ∙ ap reals (c .start .ensures .written) ∙ tangent-reals (R .ring) L _,
       λ i h. let none : ⊥ = omega arith in absurd none,
     )
 

@@ -21,7 +21,7 @@ returns-in-Root g c =
     let P : R .ring .V → Type 0 = λ b. Lift R F f (c .args .k) b (c .in-Root .root .0) in
     record {
       answers = search needs;
-      lifts = subst P same (lift-from R F L I f (c .args .k) _ (c .in-Root .root .0) (c .if-k-eq0 .left) (λ z. ne (sym same ∙ z)) (c .in-Root .ensures tt f (c .rise .ensures)));
+      lifts = subst P same (lift-from R F L I f (c .args .k) _ (c .in-Root .root .0) (c .if-k-eq0 .left) (λ z. ne (sym same ∙ z)) (c .in-Root .ensures tt f (c .rise .ensures .written)));
     }
 
 pub returns-in-rest : need.returns-in-rest
@@ -35,5 +35,5 @@ returns-in-rest g c =
     let P : R .ring .V → Type 0 = λ b. Simple R F f (c .args .k) b → ⊥ in
     record {
       answers = search needs;
-      lifts = subst P same (no-lift R F L I f (c .args .k) _ (c .judge .result) (c .judge .ensures f (c .rise .ensures)) (c .in-rest .not-Root));
+      lifts = subst P same (no-lift R F L I f (c .args .k) _ (c .judge .result) (c .judge .ensures f (c .rise .ensures .written)) (c .in-rest .not-Root));
     }
