@@ -57,7 +57,12 @@ fn main(rt: LibcRuntime) -> io::Result<()> {
     let mut list = vec![in heap; empty; DEGREE]?;
     let mut work = vec![in heap; zero; 27 * (DEGREE + 1)]?;
     let start = Instant::now(&rt)?;
-    let done = lists(f.as_slice(), list.as_mut_slice(), work.as_mut_slice(), ROUNDS);
+    let done = lists(
+        f.as_slice(),
+        list.as_mut_slice(),
+        work.as_mut_slice(),
+        ROUNDS,
+    );
     let micros = start.elapsed(&rt)?.as_micros() / (u128::from(ROUNDS) + 1);
     let Ok(all) = done else {
         return eprintln!(rt, "the list was refused");
