@@ -32,7 +32,11 @@ fn parsed(word: &str) -> Option<Call> {
         return None;
     }
     match (text::read::number(code), text::read::number(quantity)) {
-        (Some(code), Some(quantity)) => Some(Call { enters, code, quantity }),
+        (Some(code), Some(quantity)) => Some(Call {
+            enters,
+            code,
+            quantity,
+        }),
         _ => None,
     }
 }
@@ -94,7 +98,8 @@ pub fn log<F: Field>(heap: Global, words: &[&str]) -> Result<Option<String>, All
     if words.len() < 2 {
         return Ok(None);
     }
-    let (Some(width), Some(spare)) = (text::read::number(words[0]), text::read::number(words[1])) else {
+    let (Some(width), Some(spare)) = (text::read::number(words[0]), text::read::number(words[1]))
+    else {
         return Ok(None);
     };
     let Some(calls) = calls(heap, &words[2..])? else {
@@ -113,7 +118,10 @@ pub fn log<F: Field>(heap: Global, words: &[&str]) -> Result<Option<String>, All
 }
 
 // A closed tally of a frame and as many sums as it has, given by their codes, or none where the numbers are no such tally.
-pub fn restored<F: Field>(heap: Global, numbers: &[u32]) -> Result<Result<Option<Closed<F>>, Refusal>, AllocError> {
+pub fn restored<F: Field>(
+    heap: Global,
+    numbers: &[u32],
+) -> Result<Result<Option<Closed<F>>, Refusal>, AllocError> {
     if numbers.len() < 2 {
         return Ok(Ok(None));
     }
@@ -154,7 +162,10 @@ pub fn compare<F: Field>(heap: Global, words: &[&str]) -> Result<Option<String>,
     let Some(at) = slash(words) else {
         return Ok(None);
     };
-    let (Some(left), Some(right)) = (text::read::numbers(heap, &words[0..at])?, text::read::numbers(heap, &words[at + 1..])?) else {
+    let (Some(left), Some(right)) = (
+        text::read::numbers(heap, &words[0..at])?,
+        text::read::numbers(heap, &words[at + 1..])?,
+    ) else {
         return Ok(None);
     };
     let left = match restored::<F>(heap, left.as_slice())? {

@@ -17,7 +17,13 @@ impl<F: Field> Closed<F> {
     {
         let zero = F::zero();
         let sums = [zero; 96];
-        Closed { body: Sums { sums, frame, turnover: 0 } }
+        Closed {
+            body: Sums {
+                sums,
+                frame,
+                turnover: 0,
+            },
+        }
     }
 
     pub fn frame(&self) -> Frame

@@ -14,6 +14,6 @@ returns g c =
     let part : c .args .low + c .args .n - c .args .low ≡ c .args .n = omega arith in
     record {
       means = c .graeffe-at .ensures .means
-    ∙ ap (λ m. coefficient D (transform D (duals (g .F·Ring) (take m (drop (c .args .low) (c .args .work .now))))) (c .args .j)) part;
+          ∙ ap (λ m. coefficient D (transform D (duals (g .F·Ring) (take m (drop (c .args .low) (c .args .work .now))))) (c .args .j)) part;
       held = c .graeffe-at .ensures .held;
     }

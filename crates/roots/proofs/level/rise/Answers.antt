@@ -28,13 +28,12 @@ loop-j-again g c =
     let there : cond (eqb ((k - (j + 1)) % 2) 0) 0 n ≡ n - low = elim (c .if-k-j-eq0 .came) [
       | then-k-j-eq0 w ↦ (let odd : (k - (j + 1)) % 2 ≡ 0 → ⊥ = omega (arith, w .if-k-j-eq0 .taken) in let is : low ≡ 0 = w .low-is in grind (arith, tells))
       | else-k-j-eq0 w ↦ (let even : (k - (j + 1)) % 2 ≡ 0 = omega (arith, w .if-k-j-eq0 .left) in let is : low ≡ n = w .low-is in grind (arith, tells))
-    ] in
-    (
+    ] in (
       ap (λ at. duals R (take n (drop at (c .climb .last .work)))) there
-    ∙ c .climb .ensures .written
-    ∙ ap (λ at. transform D (duals R (take n (drop at (c .loop-j .work))))) here
-    ∙ ap (transform D) (c .loop-j .inv .0)
-    ∙ ap (tower D (tangent (R .ring) (polynomial R (g .F·Field) (c .args .codes .now)))) (sym (add-one j)),
+          ∙ c .climb .ensures .written
+          ∙ ap (λ at. transform D (duals R (take n (drop at (c .loop-j .work))))) here
+          ∙ ap (transform D) (c .loop-j .inv .0)
+          ∙ ap (tower D (tangent (R .ring) (polynomial R (g .F·Field) (c .args .codes .now)))) (sym (add-one j)),
       λ i d h. subst (λ at. Held R (getD (c .climb .last .work) (at + i) d)) (sym there) (c .climb .ensures .held i d h),
     )
 
