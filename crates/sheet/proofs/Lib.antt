@@ -1,0 +1,10 @@
+pub mod Words
+pub mod Items
+pub mod Exits
+pub mod SoFar
+pub mod Back
+pub mod Laws
+pub mod Readings
+pub mod Names
+pub mod Puts
+pub mod Writes
