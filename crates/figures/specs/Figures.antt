@@ -1,11 +1,11 @@
--- Worked figures over the field of 17 elements: transforms, lists of roots, lifts, and a root of multiplicity 17.
+-- Worked figures over the field of 17 elements: transforms, lists of roots, lifts, a root of multiplicity 17, and tallies.
 use mathlib.Core.Path.{_≡_}
-use mathlib.Core.Logic.{_↔_}
+use mathlib.Core.Logic.{_↔_, _≢_}
 use mathlib.Core.Bool.{Bool, true, false}
 use mathlib.Core.List.{List, [], _∷_, _++_, map}
-use Prim.Native.Nat.{ℕ, _-_}
+use Prim.Native.Nat.{ℕ, _-_, _<_}
 use lib.Dec.{eqb}
-use lib.ListN.{length, replicate}
+use lib.ListN.{length, getD, replicate}
 use Rattle.algebra.specs.Rings.{Ops}
 use Rattle.algebra.specs.Duals.{dual}
 use Rattle.algebra.specs.Graeffe.{transform, tower}
@@ -20,6 +20,9 @@ use Rattle.roots.specs.Slopes.{reals, epsilons}
 use Rattle.roots.specs.Tangents.{tangent}
 use Rattle.roots.specs.Codes.{element, polynomial}
 use Rattle.roots.specs.Roots.{Root, Simple, Lift, Trials}
+use Rattle.algebra.specs.Refusals.{accepted}
+use Rattle.tally.specs.Contents.{enter, answering}
+use Rattle.tally.specs.Logs.{Line, Log, line, Answered, moved, net, moment}
 
 -- what the implementations of the ring and of the field say of the elements
 abbrev pub R17 : RingOf Seventeen
@@ -49,6 +52,16 @@ pub record RootFigure (cs : List ℕ) (roots : List (ℕ × ℕ)) (splits : Bool
 abbrev pub seventeenth : List ℕ
 seventeenth = 14 ∷ (replicate 16 0 ++ (1 ∷ []))
 
+-- n of the code a entered, and accepted
+abbrev pub entered : (a n : ℕ) → Line
+entered a n = line enter a n accepted
+
+-- the log is answered as defined and moved t, and the sums from S_0 on of a tally that has kept it have these codes
+pub record LogFigure (log : Log) (t : ℕ) (sums : List ℕ) : Type 0 where
+  pub answered : Answered 17 0 log
+  pub turnover : moved log ≡ t
+  pub codes : (k : ℕ) → k < length sums → moment o17 value log k ≡ value (getD sums k 0)
+
 pub record Figures : Type 0 where
   -- transforms; the last one has a zero on top
   pub transform-quadratic : transform o17 (coefficients (2 ∷ 14 ∷ 1 ∷ [])) ≡ coefficients (4 ∷ 12 ∷ 1 ∷ [])
@@ -69,3 +82,13 @@ pub record Figures : Type 0 where
   -- x^17 - 3 is (x - 3)^17
   pub all-roots-three : (c : ℕ) → (c ≡ 3) ↔ Root R17 F17 (coefficients seventeenth) c
   pub seventeen-times : Multiplicity o17 (coefficients seventeenth) (value 3) 17
+  -- one of 3 and two of 5, at a width of 2 and a spare of 1; then two more are too many, and one more is not
+  pub log-three-five : LogFigure (entered 3 1 ∷ entered 5 2 ∷ []) 3 (3 ∷ 13 ∷ 8 ∷ 5 ∷ 5 ∷ [])
+  pub two-more-full : answering 17 3 7 2 ≡ (4, 3 ∷ [])
+  pub one-more-taken : answering 17 3 7 1 ≡ accepted
+  -- one of 3 and two of 4
+  pub log-three-four : LogFigure (entered 3 1 ∷ entered 4 2 ∷ []) 3 (3 ∷ 11 ∷ 7 ∷ 2 ∷ 15 ∷ [])
+  -- one each of 1 and 3 against two of 2, at a width of 1 and no spare: equal sums, and three codes that differ
+  pub log-one-three : LogFigure (entered 1 1 ∷ entered 3 1 ∷ []) 2 (2 ∷ 4 ∷ [])
+  pub log-two-two : LogFigure (entered 2 2 ∷ []) 2 (2 ∷ 4 ∷ [])
+  pub out-of-reach : (c : ℕ) → In c (1 ∷ 2 ∷ 3 ∷ []) → net (entered 1 1 ∷ entered 3 1 ∷ []) c ≢ net (entered 2 2 ∷ []) c
