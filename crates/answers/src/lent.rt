@@ -24,3 +24,12 @@ pub fn records(heap: Global, n: usize) -> Result<Vec<RootRecord>, AllocError> {
     }
     Ok(list)
 }
+
+// A row of n bytes, to be lent to a call.
+pub fn bytes(heap: Global, n: usize) -> Result<Vec<u8>, AllocError> {
+    let mut row = Vec::new(heap);
+    for _ in 0..n {
+        row.push(0)?;
+    }
+    Ok(row)
+}

@@ -2,6 +2,7 @@
 mod lent;
 mod lifted;
 mod listed;
+mod sheets;
 mod tallies;
 mod tangent;
 mod transform;
@@ -33,6 +34,8 @@ fn over<F: Field + Drop>(heap: Global, words: &[&str]) -> Result<Option<String>,
         "roots" => listed::listed::<F>(heap, &words[2..]),
         "log" => tallies::log::<F>(heap, &words[2..]),
         "compare" => tallies::compare::<F>(heap, &words[2..]),
+        "write" => sheets::write::<F>(heap, &words[2..]),
+        "read" => sheets::read::<F>(heap, &words[2..]),
         _ => Ok(None),
     }
 }

@@ -117,20 +117,20 @@ pub fn log<F: Field>(heap: Global, words: &[&str]) -> Result<Option<String>, All
     Ok(Some(format!(heap, "ok {answers} {turnover}{sums}")?))
 }
 
-// A closed tally of a frame and as many sums as it has, given by their codes, or none where the numbers are no such tally.
-pub fn restored<F: Field>(
+// A closed tally as a sheet could hold it: refused by its frame, and none where the sums are not as many as the frame has or
+// one is no code, or the turnover is above the limit.
+pub fn held<F: Field>(
     heap: Global,
-    numbers: &[u32],
+    width: u32,
+    spare: u32,
+    turnover: u32,
+    sums: &[u32],
 ) -> Result<Result<Option<Closed<F>>, Refusal>, AllocError> {
-    if numbers.len() < 2 {
-        return Ok(Ok(None));
-    }
-    let frame = match Frame::new(numbers[0], numbers[1]) {
+    let frame = match Frame::new(width, spare) {
         Ok(frame) => frame,
         Err(why) => return Ok(Err(why)),
     };
-    let sums = &numbers[2..];
-    if sums.len() != frame.count() {
+    if sums.len() != frame.count() || turnover > (F::size() - 1) / 4 {
         return Ok(Ok(None));
     }
     let mut codes = Vec::new(heap);
@@ -141,8 +141,19 @@ pub fn restored<F: Field>(
         codes.push(Code(*code))?;
     }
     let mut tally = Closed::<F>::blank(frame);
-    tally.restore(frame, 0, codes.as_slice());
+    tally.restore(frame, turnover, codes.as_slice());
     Ok(Ok(Some(tally)))
+}
+
+// A tally of turnover 0 by its frame and its sums.
+fn restored<F: Field>(
+    heap: Global,
+    numbers: &[u32],
+) -> Result<Result<Option<Closed<F>>, Refusal>, AllocError> {
+    if numbers.len() < 2 {
+        return Ok(Ok(None));
+    }
+    held::<F>(heap, numbers[0], numbers[1], 0, &numbers[2..])
 }
 
 // Where the word / stands.
