@@ -10,8 +10,8 @@ module _ (o : Ops) (L : Lawful o) where
   decide x y = go (o.alike x y) refl
     where
       go : (b : Bool) → o.alike x y ≡ b → (x ≡ y) ⊎ (x ≢ y)
-      go true e = inl (L.Alike-same x y e)
-      go false e = inr (λ h. true≢false (sym (L.same_Alike x y h) ∙ e))
+      go true e = inl (L.alike_same x y e)
+      go false e = inr (λ h. true≢false (sym (L.same_alike x y h) ∙ e))
 
 module _ (o : Ops) (L : Lawful o) (inv : Invertible o) where
   pub no_divisors : (x y : o.V) → o.times x y ≡ o.nought → (x ≡ o.nought) ⊎ (y ≡ o.nought)

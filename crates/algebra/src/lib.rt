@@ -1,4 +1,6 @@
 // Rings, dual numbers, fields, and polynomials with their Graeffe transform. Every function is generic over the ring or field.
+#![tactic(auto)]
+
 pub mod code;
 pub mod dual;
 pub mod field;

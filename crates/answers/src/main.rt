@@ -1,4 +1,6 @@
 // Answers questions, one a line, each over one of the two fields. A line that is no question is answered `error`.
+#![tactic(auto)]
+
 mod lent;
 mod lifted;
 mod listed;

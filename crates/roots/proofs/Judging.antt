@@ -34,10 +34,10 @@ module _ (o : Ops) (L : Lawful o) where
 
   -- the test of equality with nought
   pub is_nought : (b : _) (x z : o.V) → z ≡ o.nought → b ≡ o.alike x z → b ≡ true → x ≡ o.nought
-  is_nought b x z ez e yes-so = L.Alike-same x z (sym e ∙ yes-so) ∙ ez
+  is_nought b x z ez e yes-so = L.alike_same x z (sym e ∙ yes-so) ∙ ez
 
   pub not_nought : (b : _) (x z : o.V) → z ≡ o.nought → b ≡ o.alike x z → b ≡ false → x ≢ o.nought
-  not_nought b x z ez e no-so same = both_ways b no-so (e ∙ L.same_Alike x z (same ∙ sym ez))
+  not_nought b x z ez e no-so same = both_ways b no-so (e ∙ L.same_alike x z (same ∙ sym ez))
 
   -- the first part of a level of the tangent tower
   pub level_reals : (f : List o.V) (k : ℕ) (D : List (o.V × o.V)) → D ≡ tower (dual o) (tangent o f) k → reals D ≡ tower o f k

@@ -1,4 +1,6 @@
 // Division by x - a, the tower of Graeffe transforms, the lift and the list of roots.
+#![tactic(auto)]
+
 mod build;
 mod check;
 mod climb;

@@ -1,5 +1,7 @@
 // Reads calls on a tally over the field of 469762049, one a line, such as `in 447 14` and `out 397 2`; prints each line that is
 // denied with the reason, and at the end the turnover and the codes of the sums.
+#![tactic(auto)]
+
 mod told;
 
 use algebra::code::Code;

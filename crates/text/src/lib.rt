@@ -1,3 +1,5 @@
 // Numbers in lines of text, elements of a field written by their codes, and bytes in hexadecimal digits.
+#![tactic(auto)]
+
 pub mod read;
 pub mod write;

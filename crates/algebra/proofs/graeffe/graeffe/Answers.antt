@@ -13,8 +13,8 @@ pub loop-k-preserved : goal.loop-k-preserved
 loop-k-preserved g c =
     let R = g.R.Ring in
     let P : ℕ → _ → Type 0 = λ j x. (R.value x ≡ coefficient R.ring (transform R.ring (values R c.args.f.now)) j) × R.canonical x in
-    let at = c.graeffe-at.ensures in (
-      place_more P c.loop-k.out c.loop-k.k c.graeffe-at.result (omega arith) (at.means, at.held) c.loop-k.invariant.0,
+    let at = c.graeffe_at.ensures in (
+      place_more P c.loop-k.out c.loop-k.k c.graeffe_at.result (omega arith) (at.means, at.held) c.loop-k.invariant.0,
       drop-set-lt _ _ _ _ c.loop-k-test.true ∙ c.loop-k.invariant.1,
     )
 

@@ -10,7 +10,7 @@ returns g c =
     let D = dual g.F.Ring.ring in
     let part : c.args.low + c.args.n - c.args.low ≡ c.args.n = omega arith in
     record {
-      means = c.graeffe-at.ensures.means
+      means = c.graeffe_at.ensures.means
           ∙ ap (λ m. coefficient D (transform D (duals g.F.Ring (take m (drop c.args.low c.args.work.now)))) c.args.j) part;
-      held = c.graeffe-at.ensures.held;
+      held = c.graeffe_at.ensures.held;
     }

@@ -12,8 +12,8 @@ use Rattle.roots.proofs.TangentLaws.{length-tangent, tangent-place}
 use Rattle.roots.proofs.climb.start.Goals as goal
 use Rattle.roots.proofs.climb.start.Goals.{then-i-n, else-i-n}
 
-pub offset-bounds-work-at : goal.offset-bounds-work-at
-offset-bounds-work-at g c =
+pub offset_bounds-work-at : goal.offset_bounds-work-at
+offset_bounds-work-at g c =
     let inside : c.args.at + c.loop-i.i < length c.loop-i.work = omega arith in
     search rules
 
@@ -26,13 +26,13 @@ loop-i-preserved g c =
     let f = polynomial R F cs in
     let i = c.loop-i.i in
     let long : length f ≡ length cs = length-map cs (λ x. element R F x.0) in
-    let re : R.value c.from-code-in-loop-i.result ≡ coefficient o f i =
-    c.from-code-in-loop-i.ensures.means ∙ sym (get_or-map (λ x. element R F x.0) cs i _ o.nought (omega arith)) in
+    let re : R.value c.from_code-in-loop-i.result ≡ coefficient o f i =
+    c.from_code-in-loop-i.ensures.means ∙ sym (get_or-map (λ x. element R F x.0) cs i _ o.nought (omega arith)) in
     let eps : R.value c.if-i-n.eps ≡ o.times (number o (suc i)) (coefficient o f (suc i)) = elim c.if-i-n.branch [
       | then-i-n w ↦
           ap R.value w.eps-is ∙ w.mul-eps.ensures.means
           ∙ ap₂ o.times (w.whole.ensures.means ∙ ap (number o) (add-one i))
-          (w.from-code.ensures.means ∙ sym (get_or-map (λ x. element R F x.0) cs (i + 1) _ o.nought (omega (arith, w.if-i-n.true))) ∙ ap (coefficient o f) (add-one i))
+          (w.from_code.ensures.means ∙ sym (get_or-map (λ x. element R F x.0) cs (i + 1) _ o.nought (omega (arith, w.if-i-n.true))) ∙ ap (coefficient o f) (add-one i))
       | else-i-n w ↦
           ap R.value w.eps-is ∙ w.zero-eps.ensures.means
           ∙ sym (ap (o.times (number o (suc i))) (get_or_past f (suc i) o.nought (omega (arith, w.if-i-n.false))) ∙ times-nought o g.met.F.Ring.lawful (number o (suc i)))
@@ -43,7 +43,7 @@ loop-i-preserved g c =
     ] in (
       segment_more (λ j x. dualized R x ≡ (coefficient o f j, o.times (number o (suc j)) (coefficient o f (suc j)))) c.loop-i.work c.args.at i _ (omega arith)
           (pair_path re eps) c.loop-i.invariant.0,
-      segment_more (λ _ x. Held R x) c.loop-i.work c.args.at i _ (omega arith) (c.from-code-in-loop-i.ensures.held, held) c.loop-i.invariant.1,
+      segment_more (λ _ x. Held R x) c.loop-i.work c.args.at i _ (omega arith) (c.from_code-in-loop-i.ensures.held, held) c.loop-i.invariant.1,
     )
 
 pub returns : goal.returns

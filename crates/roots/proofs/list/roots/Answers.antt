@@ -15,10 +15,10 @@ total-requires g c =
     let R = g.F.Ring in
     let F = g.F.Field in
     let L = g.met.F.Ring.lawful in
-    let I = c.field-laws-order.ensures.laws in
+    let I = c.field_laws-order.ensures.laws in
     let cs = c.args.f.now in
     let f = polynomial R F cs in
-    let good = good_from F.order cs (sym c.in-ok-check.ensures) in
+    let good = good_from F.order cs (sym c.in_ok-check.ensures) in
     let s = c.search-found.ensures in
     let long : length f ≡ suc (length cs - 1) = length-map cs (λ x. element R F x.0) ∙ omega (arith, good.some) in
     record {

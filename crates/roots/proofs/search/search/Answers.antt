@@ -13,14 +13,14 @@ use Rattle.roots.proofs.search.search.Goals.{then-f-eq0, else-f-eq0}
 
 pub insert-requires : goal.insert-requires
 insert-requires g c =
-    omega (arith, c.requires.room, zero_fits g.F.Ring g.F.Field g.met.F.Ring.lawful c.field-laws-order.ensures.laws c.args.f.now (good_from _ _ c.requires.good) c.if-f-eq0.true)
+    omega (arith, c.requires.room, zero_fits g.F.Ring g.F.Field g.met.F.Ring.lawful c.field_laws-order.ensures.laws c.args.f.now (good_from _ _ c.requires.good) c.if-f-eq0.true)
 
 pub loop-i-init : goal.loop-i-init
 loop-i-init g c =
     let R = g.F.Ring in
     let F = g.F.Field in
     let L = g.met.F.Ring.lawful in
-    let I = c.field-laws-order.ensures.laws in
+    let I = c.field_laws-order.ensures.laws in
     let cs = c.args.f.now in
     let f = polynomial R F cs in
     let good = good_from F.order cs c.requires.good in
@@ -41,30 +41,30 @@ loop-i-init g c =
       )
     ]
 
-pub overflow-mul-i : goal.overflow-mul-i
-overflow-mul-i g c =
+pub overflow_mul-i : goal.overflow_mul-i
+overflow_mul-i g c =
     let F = g.F.Field in
-    let I = c.field-laws-order.ensures.laws in
+    let I = c.field_laws-order.ensures.laws in
     let good = good_from F.order c.args.f.now c.requires.good in
-    let e : c.loop-i.i * ((c.field-laws-order.result - 1) / c.odd-part-odd.result) ≡ c.loop-i.i * 2 ^ F.levels =
-    ap₂ (λ q m. c.loop-i.i * ((q - 1) / m)) c.field-laws-order.ensures.answer c.odd-part-odd.ensures.answer
+    let e : c.loop-i.i * ((c.field_laws-order.result - 1) / c.odd_part-odd.result) ≡ c.loop-i.i * 2 ^ F.levels =
+    ap₂ (λ q m. c.loop-i.i * ((q - 1) / m)) c.field_laws-order.ensures.answer c.odd_part-odd.ensures.answer
     ∙ ap (λ n. c.loop-i.i * n) (step_is g.F.Ring F g.met.F.Ring.lawful I c.args.f.now good) in
-    Fits-of_lt (omega (arith, I.bounded.high, step_below g.F.Ring F g.met.F.Ring.lawful I c.args.f.now good c.loop-i.i (omega (arith, c.odd-part-odd.ensures.answer))))
+    Fits-of_lt (omega (arith, I.bounded.high, step_below g.F.Ring F g.met.F.Ring.lawful I c.args.f.now good c.loop-i.i (omega (arith, c.odd_part-odd.ensures.answer))))
 
 pub visit-requires : goal.visit-requires
 visit-requires g c =
     let R = g.F.Ring in
     let F = g.F.Field in
     let L = g.met.F.Ring.lawful in
-    let I = c.field-laws-order.ensures.laws in
+    let I = c.field_laws-order.ensures.laws in
     let cs = c.args.f.now in
     let f = polynomial R F cs in
     let i = c.loop-i.i in
     let good = good_from F.order cs c.requires.good in
     let long : length f ≡ length cs = length-map cs (λ x. element R F x.0) in
-    let inside : i < F.odd = omega (arith, c.odd-part-odd.ensures.answer) in
-    let e : i * ((c.field-laws-order.result - 1) / c.odd-part-odd.result) ≡ i * 2 ^ F.levels =
-    ap₂ (λ q m. i * ((q - 1) / m)) c.field-laws-order.ensures.answer c.odd-part-odd.ensures.answer ∙ ap (λ n. i * n) (step_is R F L I cs good) in
+    let inside : i < F.odd = omega (arith, c.odd_part-odd.ensures.answer) in
+    let e : i * ((c.field_laws-order.result - 1) / c.odd_part-odd.result) ≡ i * 2 ^ F.levels =
+    ap₂ (λ q m. i * ((q - 1) / m)) c.field_laws-order.ensures.answer c.odd_part-odd.ensures.answer ∙ ap (λ n. i * n) (step_is R F L I cs good) in
     record {
       holds = c.requires.holds;
       ready = ready_moved R F L I f c.height-top.result F.levels _ (i * 2 ^ F.levels) (codes (take c.loop-i.found.count c.loop-i.list)) c.height-top.ensures e
@@ -79,14 +79,14 @@ loop-i-preserved g c =
     let R = g.F.Ring in
     let F = g.F.Field in
     let L = g.met.F.Ring.lawful in
-    let I = c.field-laws-order.ensures.laws in
+    let I = c.field_laws-order.ensures.laws in
     let cs = c.args.f.now in
     let f = polynomial R F cs in
     let i = c.loop-i.i in
     let good = good_from F.order cs c.requires.good in
-    let inside : i < F.odd = omega (arith, c.odd-part-odd.ensures.answer) in
-    let e : i * ((c.field-laws-order.result - 1) / c.odd-part-odd.result) ≡ i * 2 ^ F.levels =
-    ap₂ (λ q m. i * ((q - 1) / m)) c.field-laws-order.ensures.answer c.odd-part-odd.ensures.answer ∙ ap (λ n. i * n) (step_is R F L I cs good) in
+    let inside : i < F.odd = omega (arith, c.odd_part-odd.ensures.answer) in
+    let e : i * ((c.field_laws-order.result - 1) / c.odd_part-odd.result) ≡ i * 2 ^ F.levels =
+    ap₂ (λ q m. i * ((q - 1) / m)) c.field_laws-order.ensures.answer c.odd_part-odd.ensures.answer ∙ ap (λ n. i * n) (step_is R F L I cs good) in
     let w = c.visit.ensures in (
       searched_more R F L I f i c.loop-i.found.trials c.visit.new.found.trials _ _ inside c.loop-i.invariant.0
           (visited_moved R F L I f c.height-top.result F.levels _ (i * 2 ^ F.levels) c.loop-i.found.trials c.visit.new.found.trials
@@ -101,9 +101,9 @@ returns g c =
     let R = g.F.Ring in
     let F = g.F.Field in
     let L = g.met.F.Ring.lawful in
-    let I = c.field-laws-order.ensures.laws in
+    let I = c.field_laws-order.ensures.laws in
     let f = polynomial R F c.args.f.now in
-    let done : c.loop-i.i ≡ F.odd = omega (arith, c.odd-part-odd.ensures.answer) in
+    let done : c.loop-i.i ≡ F.odd = omega (arith, c.odd_part-odd.ensures.answer) in
     let s = c.loop-i.invariant.0 in
     let all = searched_all R F L I f c.loop-i.found.trials _ (searched_moved R F L I f c.loop-i.i F.odd _ c.loop-i.found.trials _ (codes (take c.loop-i.found.count c.loop-i.list)) done refl refl s) in
     record {

@@ -24,9 +24,9 @@ returns-then-k-eq0 g c f e =
     let L = g.met.F.Ring.lawful in
     let x = R.value c.args.x in
     let none = is_nought R.ring L c.same.result (R.value c.evaluate-tried.result.value) (R.value c.zero.result) c.zero.ensures.means c.same.ensures c.if-not-same.false in
-    alone_bottom R F L c.field-laws-order.ensures.laws f x c.to-code.result.0 c.args.k c.if-k-eq0.true
+    alone_bottom R F L c.field_laws-order.ensures.laws f x c.to_code.result.0 c.args.k c.if-k-eq0.true
     (ap (λ p. eval R.ring p x) (sym (level_reals R.ring L f c.args.k (duals R (take (c.args.at + c.args.n - c.args.at) (drop c.args.at c.args.work.now))) (part ∙ e))) ∙ sym c.evaluate-tried.ensures.value ∙ none)
-    c.to-code.ensures.below c.to-code.ensures.means
+    c.to_code.ensures.below c.to_code.ensures.means
 
 pub returns-then-same : goal.returns-then-same
 returns-then-same g c f e =
@@ -54,6 +54,6 @@ returns g c f e =
     let t = c.evaluate-tried in
     let none = is_nought R.ring L c.same.result (R.value t.result.value) (R.value c.zero.result) c.zero.ensures.means c.same.ensures c.if-not-same.false in
     let steep = not_nought R.ring L c.same-2.result (R.value t.result.slope) (R.value c.zero-2.result) c.zero-2.ensures.means c.same-2.ensures c.if-same.false in
-    alone_lifted R F L c.field-laws-order.ensures.laws f c.args.k (duals R (take (c.args.at + c.args.n - c.args.at) (drop c.args.at c.args.work.now))) (part ∙ e)
-    x (R.value t.result.slope) (R.value t.result.tangent) (R.value c.lifted.result) c.to-code-2.result.0 c.requires.nonzero
-    (sym t.ensures.value ∙ none) t.ensures.slope steep t.ensures.tangent c.lifted.ensures c.to-code-2.ensures.below c.to-code-2.ensures.means
+    alone_lifted R F L c.field_laws-order.ensures.laws f c.args.k (duals R (take (c.args.at + c.args.n - c.args.at) (drop c.args.at c.args.work.now))) (part ∙ e)
+    x (R.value t.result.slope) (R.value t.result.tangent) (R.value c.lifted.result) c.to_code-2.result.0 c.requires.nonzero
+    (sym t.ensures.value ∙ none) t.ensures.slope steep t.ensures.tangent c.lifted.ensures c.to_code-2.ensures.below c.to_code-2.ensures.means

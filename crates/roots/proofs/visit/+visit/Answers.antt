@@ -13,8 +13,8 @@ use Rattle.roots.specs.declared.verdict.Verdict.TheVariants.{Both}
 use Rattle.roots.proofs.Visiting.{Vanishes, put_fits, visited_nothing, visited_root, both_first, both_second, both_visited, tried_power, few_first, few_second, drop_on, length-codes}
 use Rattle.roots.proofs.visit.+visit.Goals as goal
 
-pub overflow-mul-k : goal.overflow-mul-k
-overflow-mul-k g t c =
+pub overflow_mul-k : goal.overflow_mul-k
+overflow_mul-k g t c =
     let inside : c.args.k * length c.args.f.now ≤ length c.args.work.now = omega (arith, c.requires.holds.room c.args.k c.requires.ready.low) in
     search rules
 
@@ -24,7 +24,7 @@ judge-requires g t c =
     let F = g.F.Field in
     record {
       room = c.requires.holds.room c.args.k c.requires.ready.low;
-      nonzero = λ z. zeta_power_nonzero R.ring g.met.F.Ring.lawful F.order F.odd F.levels (λ b. R.value (F.at b)) (R.value F.zeta) c.field-laws-order.ensures.laws c.args.e.0
+      nonzero = λ z. zeta_power_nonzero R.ring g.met.F.Ring.lawful F.order F.odd F.levels (λ b. R.value (F.at b)) (R.value F.zeta) c.field_laws-order.ensures.laws c.args.e.0
           (sym (tried_power R F (R.value c.power-x.result) (R.value c.primitive.result) c.args.e.0 c.primitive.ensures.means c.power-x.ensures.means) ∙ z);
     }
 
@@ -43,11 +43,11 @@ insert-requires g t c =
       c.requires.room.1,
       length-map c.args.f.now (λ x. element R F x.0),
       length-codes c.args.found.now.count c.args.list.now c.requires.room.1,
-      put_fits R F g.met.F.Ring.lawful c.field-laws-order.ensures.laws f k e c.in-Root.code.0 _ c.requires.ready alone,
+      put_fits R F g.met.F.Ring.lawful c.field_laws-order.ensures.laws f k e c.in-Root.code.0 _ c.requires.ready alone,
     )
 
-pub overflow-sub-k : goal.overflow-sub-k
-overflow-sub-k g t c = omega (arith, (c.in-Both.ensures (polynomial g.F.Ring g.F.Field c.args.f.now) (c.requires.holds.level c.args.k c.requires.ready.low)).0)
+pub overflow_sub-k : goal.overflow_sub-k
+overflow_sub-k g t c = omega (arith, (c.in-Both.ensures (polynomial g.F.Ring g.F.Field c.args.f.now) (c.requires.holds.level c.args.k c.requires.ready.low)).0)
 
 pub visit-requires : goal.visit-requires
 visit-requires g t c κs within =
@@ -64,15 +64,15 @@ visit-requires g t c κs within =
         (
           c.requires.holds,
           (
-            both_first R F g.met.F.Ring.lawful c.field-laws-order.ensures.laws f k e _ both.0 c.requires.ready (both.1, both.2),
+            both_first R F g.met.F.Ring.lawful c.field_laws-order.ensures.laws f k e _ both.0 c.requires.ready (both.1, both.2),
             (c.requires.room.0, (c.requires.room.1, few_first c.args.found.now.trials k both.0 c.requires.few)),
           ),
         ),
       ),
     )
 
-pub overflow-sub-k-in-Both : goal.overflow-sub-k-in-Both
-overflow-sub-k-in-Both g t c = omega (arith, (c.in-Both.ensures (polynomial g.F.Ring g.F.Field c.args.f.now) (c.requires.holds.level c.args.k c.requires.ready.low)).0)
+pub overflow_sub-k-in-Both : goal.overflow_sub-k-in-Both
+overflow_sub-k-in-Both g t c = omega (arith, (c.in-Both.ensures (polynomial g.F.Ring g.F.Field c.args.f.now) (c.requires.holds.level c.args.k c.requires.ready.low)).0)
 
 pub visit-requires-in-Both : goal.visit-requires-in-Both
 visit-requires-in-Both g t c κs within =
@@ -84,14 +84,14 @@ visit-requires-in-Both g t c κs within =
     let tried = tried_power R F (R.value c.power-x.result) (R.value c.primitive.result) e c.primitive.ensures.means c.power-x.ensures.means in
     let both : Judged R F f k (zeta_power R F e) Both = subst (λ b. Judged R F f k b Both) tried (c.in-Both.ensures f (c.requires.holds.level k c.requires.ready.low)) in
     let w = c.visit.ensures.visited in
-    let ready = both_second R F g.met.F.Ring.lawful c.field-laws-order.ensures.laws f k e c.args.found.now.trials c.visit.new.found.trials _ _ both.0 c.requires.ready (both.1, both.2) w in (
+    let ready = both_second R F g.met.F.Ring.lawful c.field_laws-order.ensures.laws f k e c.args.found.now.trials c.visit.new.found.trials _ _ both.0 c.requires.ready (both.1, both.2) w in (
       search rules,
       (
         within,
         (
           c.requires.holds,
           (
-            subst (λ q. Ready R F f (k - 1) (e / 2 + (q - 1) / 2) (codes (take c.visit.new.found.count c.visit.new.list))) (sym c.field-laws-order.ensures.answer) ready,
+            subst (λ q. Ready R F f (k - 1) (e / 2 + (q - 1) / 2) (codes (take c.visit.new.found.count c.visit.new.list))) (sym c.field_laws-order.ensures.answer) ready,
             (omega (arith, c.requires.room.0, c.visit.auto.list), (c.visit.ensures.inside.1, few_second c.args.found.now.trials c.visit.new.found.trials k both.0 c.requires.few w.few)),
           ),
         ),
@@ -107,7 +107,7 @@ returns-in-Nothing g t c =
     let e = c.args.e.0 in
     let tried = tried_power R F (R.value c.power-x.result) (R.value c.primitive.result) e c.primitive.ensures.means c.power-x.ensures.means in
     record {
-      visited = visited_nothing R F g.met.F.Ring.lawful c.field-laws-order.ensures.laws f k e c.args.found.now.trials _ c.requires.ready
+      visited = visited_nothing R F g.met.F.Ring.lawful c.field_laws-order.ensures.laws f k e c.args.found.now.trials _ c.requires.ready
           (λ z. c.in-Nothing.ensures f (c.requires.holds.level k c.requires.ready.low) (ap (λ b. eval R.ring (tower R.ring f k) b) tried ∙ z));
       inside = (omega arith, c.requires.room.1);
       rest = refl;
@@ -126,7 +126,7 @@ returns-in-Root g t c =
     let xs = codes (take c.args.found.now.count c.args.list.now) in
     record {
       visited = subst (λ ys. Visited R F f k e xs ys c.args.found.now.trials (c.args.found.now.trials + 1)) (sym c.insert.ensures.placed)
-          (visited_root R F g.met.F.Ring.lawful c.field-laws-order.ensures.laws f k e code c.args.found.now.trials xs c.requires.ready alone);
+          (visited_root R F g.met.F.Ring.lawful c.field_laws-order.ensures.laws f k e code c.args.found.now.trials xs c.requires.ready alone);
       inside = (
         omega arith,
         omega (
@@ -136,7 +136,7 @@ returns-in-Root g t c =
           c.insert.auto.list,
           length-map c.args.f.now (λ x. element R F x.0),
           length-codes c.args.found.now.count c.args.list.now c.requires.room.1,
-          put_fits R F g.met.F.Ring.lawful c.field-laws-order.ensures.laws f k e code xs c.requires.ready alone,
+          put_fits R F g.met.F.Ring.lawful c.field_laws-order.ensures.laws f k e code xs c.requires.ready alone,
         ),
       );
       rest = c.insert.ensures.rest;
@@ -155,9 +155,9 @@ returns-in-Both g t c =
     let z = c.visit-in-Both.ensures in
     let last = c.visit-in-Both.new.found in
     record {
-      visited = both_visited R F g.met.F.Ring.lawful c.field-laws-order.ensures.laws f k e c.args.found.now.trials c.visit.new.found.trials last.trials _ _ _
+      visited = both_visited R F g.met.F.Ring.lawful c.field_laws-order.ensures.laws f k e c.args.found.now.trials c.visit.new.found.trials last.trials _ _ _
           both.0 c.requires.ready (both.1, both.2) w.visited
-          (subst (λ q. Visited R F f (k - 1) (e / 2 + (q - 1) / 2) (codes (take c.visit.new.found.count c.visit.new.list)) (codes (take last.count c.visit-in-Both.new.list)) c.visit.new.found.trials last.trials) c.field-laws-order.ensures.answer z.visited);
+          (subst (λ q. Visited R F f (k - 1) (e / 2 + (q - 1) / 2) (codes (take c.visit.new.found.count c.visit.new.list)) (codes (take last.count c.visit-in-Both.new.list)) c.visit.new.found.trials last.trials) c.field_laws-order.ensures.answer z.visited);
       inside = (omega (arith, w.inside.0, z.inside.0), z.inside.1);
       rest = z.rest ∙ drop_on c.args.list.now c.visit.new.list c.visit.new.found.count last.count z.inside.0 w.rest;
     }

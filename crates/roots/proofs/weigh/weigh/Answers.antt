@@ -14,7 +14,7 @@ multiplicity-multiplicity-requires g c =
       room = omega (arith, c.requires.room, c.loop-j.auto.work);
       few = good.few;
       some = good.some;
-      top = top_nonzero g.F.Ring g.F.Field g.met.F.Ring.lawful c.field-laws-order.ensures.laws c.args.f.now good;
+      top = top_nonzero g.F.Ring g.F.Field g.met.F.Ring.lawful c.field_laws-order.ensures.laws c.args.f.now good;
     }
 
 pub loop-j-preserved : goal.loop-j-preserved
@@ -26,6 +26,6 @@ loop-j-preserved g c =
     let list = c.loop-j.list in
     let j = c.loop-j.j in (
       λ k d. code_kept list j _ _ refl k d ∙ c.loop-j.invariant.0 k d,
-      place_more P list j _ (omega (arith, c.loop-j.auto.list, c.requires.inside)) (subst (λ x. Multiplicity R.ring f x c.multiplicity-multiplicity.result) c.from-code.ensures.means c.multiplicity-multiplicity.ensures) c.loop-j.invariant.1,
+      place_more P list j _ (omega (arith, c.loop-j.auto.list, c.requires.inside)) (subst (λ x. Multiplicity R.ring f x c.multiplicity-multiplicity.result) c.from_code.ensures.means c.multiplicity-multiplicity.ensures) c.loop-j.invariant.1,
       drop-set-lt c.args.count list j _ c.loop-j-test.true ∙ c.loop-j.invariant.2,
     )

@@ -5,4 +5,4 @@ use Rattle.sheet.proofs.put.put.Goals as goal
 
 pub returns : goal.returns
 unfolding word
-returns c = mid c.args.place _ 4 c.args.out.now _ (word c.args.n) (omega arith) (c.copy-from-slice.ensures.after ∙ c.to-be-bytes-four.ensures)
+returns c = mid c.args.place _ 4 c.args.out.now _ (word c.args.n) (omega arith) (c.copy_from_slice.ensures.after ∙ c.to_be_bytes-four.ensures)

@@ -16,5 +16,5 @@ returns c =
     let e1 = step out out (take p out) w _ p 4 front (sym (take-append-drop p out)) c.put.ensures in
     let long : length (take p out ++ w) ≡ p + 4 = omega (arith, length-append (take p out) w, word_long (length name)) in
     let e2 = step out _ (take p out ++ w) name _ (p + 4) (length name) long e1
-    (mid (p + 4) _ (length name) c.put.new.out _ name (omega arith) c.copy-from-slice.ensures.after) in
+    (mid (p + 4) _ (length name) c.put.new.out _ name (omega arith) c.copy_from_slice.ensures.after) in
     e2 ∙ ap (λ x. x ++ drop (p + 4 + length name) out) (append_assoc (take p out) w name) ∙ append_assoc (take p out) (w ++ name) (drop (p + 4 + length name) out)

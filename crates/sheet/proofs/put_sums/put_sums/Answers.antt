@@ -12,7 +12,7 @@ loop-k-preserved g c =
     let f = c.args.tally.now.body.frame in
     let total : c.count-count.result ≡ 2 * f.width + f.spare = c.count-count.ensures ∙ ap (λ x. 2 * x.width + x.spare) c.frame.ensures in
     let inside : c.loop-k.k < 2 * f.width + f.spare = omega arith in
-    put_more _ _ _ c.args.out.now c.loop-k.out _ c.loop-k.k c.sum-code.result.0 (omega arith) c.sum-code.ensures.below (c.sum-code.ensures.means inside)
+    put_more _ _ _ c.args.out.now c.loop-k.out _ c.loop-k.k c.sum_code.result.0 (omega arith) c.sum_code.ensures.below (c.sum_code.ensures.means inside)
     c.put.ensures c.loop-k.invariant
 
 pub returns : goal.returns

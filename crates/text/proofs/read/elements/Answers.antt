@@ -9,9 +9,9 @@ loop-code-preserved g c =
     let value = g.F.Ring.value in
     let of : ℕ → g.F.Ring.ring.V = λ n. value (g.F.Field.at n) in
     let P : List g.row.F.Denot → Type 0 = λ xs. Named value g.F.Ring.canonical of (take (c.loop-code.code-index + 1) c.args.codes.now) xs in
-    subst P (sym c.in-ok-push.ensures.items)
-    (named_more value g.F.Ring.canonical of c.args.codes.now c.loop-code.code-index (vec_items c.loop-code.all) c.from-code.result 0
-    c.loop-code-test.true c.from-code.ensures.means c.from-code.ensures.held c.loop-code.invariant)
+    subst P (sym c.in_ok-push.ensures.items)
+    (named_more value g.F.Ring.canonical of c.args.codes.now c.loop-code.code-index (vec_items c.loop-code.all) c.from_code.result 0
+    c.loop-code-test.true c.from_code.ensures.means c.from_code.ensures.held c.loop-code.invariant)
 
 pub returns : goal.returns
 returns g c =

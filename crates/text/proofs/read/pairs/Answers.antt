@@ -12,10 +12,10 @@ loop-word-init g c = (
   named_none (both_mean g.F.Ring.value) (BothHeld g.F.Ring.canonical) (both_named (λ n. g.F.Ring.value (g.F.Field.at n))) (vec_items c.new-all.result) c.new-all.ensures.items,
 )
 
-pub returns-in-default : goal.returns-in-default
-returns-in-default g c =
+pub returns-in_default : goal.returns-in_default
+returns-in_default g c =
     so_stops (λ w. pair_of w.now) c.args.words.now c.loop-word.word-index c.loop-word.invariant.0 _
-    c.loop-word-test.true (sym c.in-default.ensures) c.loop-word.invariant.1
+    c.loop-word-test.true (sym c.in_default.ensures) c.loop-word.invariant.1
 
 pub loop-word-preserved : goal.loop-word-preserved
 loop-word-preserved g c =
@@ -23,13 +23,13 @@ loop-word-preserved g c =
     let of : ℕ → g.F.Ring.ring.V = λ n. value (g.F.Field.at n) in
     let p : ℕ × ℕ = (c.in-Some.re, c.in-Some.eps) in
     let old = c.loop-word.invariant in
-    let x : Dual g.row.F.Denot = record { re = c.from-code.result; eps = c.from-code-in-loop-word.result } in
+    let x : Dual g.row.F.Denot = record { re = c.from_code.result; eps = c.from_code-in-loop-word.result } in
     let P : List (Dual g.row.F.Denot) → Type 0 = λ xs. Named (both_mean value) (BothHeld g.F.Ring.canonical) (both_named of) (old.0 ++ (p ∷ [])) xs in (
       old.0 ++ (p ∷ []),
       so_more (λ w. pair_of w.now) c.args.words.now c.loop-word.word-index old.0 p _ c.loop-word-test.true (sym c.in-Some.ensures) old.1,
-      subst P (sym c.in-ok-push.ensures.items)
+      subst P (sym c.in_ok-push.ensures.items)
           (named_push (both_mean value) (BothHeld g.F.Ring.canonical) (both_named of) old.0 p (vec_items c.loop-word.all) x
-          (cc (c.from-code.ensures.means, c.from-code-in-loop-word.ensures.means)) (c.from-code.ensures.held, c.from-code-in-loop-word.ensures.held) old.2),
+          (cc (c.from_code.ensures.means, c.from_code-in-loop-word.ensures.means)) (c.from_code.ensures.held, c.from_code-in-loop-word.ensures.held) old.2),
     )
 
 pub returns : goal.returns

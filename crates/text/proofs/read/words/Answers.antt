@@ -8,7 +8,7 @@ pub loop-word-preserved : goal.loop-word-preserved
 loop-word-preserved c =
     let w = c.in-Some.word in
     let first = first_word _ w.now _ c.in-Some.ensures.steps in
-    let pushed : vec_items c.push.new.self ≡ vec_items c.loop-word.all ++ (w ∷ []) = c.in-ok-push.ensures.items in
+    let pushed : vec_items c.push.new.self ≡ vec_items c.loop-word.all ++ (w ∷ []) = c.in_ok-push.ensures.items in
     let P : List (List ℕ) → Type 0 = λ seen. Before c.args.line.now (split_whitespace_rest c.next.new.self) seen in
     subst P (sym (ap (map (λ v. v.now)) pushed ∙ map_push (λ v. v.now) (vec_items c.loop-word.all) w))
     (one_more _ _ _ _ w.now c.loop-word.invariant first)

@@ -11,12 +11,12 @@ loop-x-init g c =
 
 pub loop-x-preserved : goal.loop-x-preserved
 loop-x-preserved g c =
-    let n = c.to-code.result.0 in
-    let grown : string_bytes c.push-str.new.self ≡ string_bytes c.loop-x.text ++ code_text n =
-    c.in-ok-push-str.ensures.bytes ∙ ap (λ t. string_bytes c.loop-x.text ++ t) (c.as-str.ensures.value ∙ c.in-ok-format.ensures.ok) in
+    let n = c.to_code.result.0 in
+    let grown : string_bytes c.push_str.new.self ≡ string_bytes c.loop-x.text ++ code_text n =
+    c.in_ok-push_str.ensures.bytes ∙ ap (λ t. string_bytes c.loop-x.text ++ t) (c.as_str.ensures.value ∙ c.in_ok-format.ensures.ok) in
     shown_more g.F.Ring.value (λ k. g.F.Ring.value (g.F.Field.at k)) (λ k. k < g.F.Field.order) code_text
-    c.args.elements.now c.loop-x.x-index (string_bytes c.loop-x.text) (string_bytes c.push-str.new.self) c.x-item.result n
-    c.loop-x-test.true c.x-item.is c.to-code.ensures.means c.to-code.ensures.below grown c.loop-x.invariant
+    c.args.elements.now c.loop-x.x-index (string_bytes c.loop-x.text) (string_bytes c.push_str.new.self) c.x-item.result n
+    c.loop-x-test.true c.x-item.is c.to_code.ensures.means c.to_code.ensures.below grown c.loop-x.invariant
 
 pub returns : goal.returns
 returns g c =

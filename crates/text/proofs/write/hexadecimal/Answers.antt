@@ -6,8 +6,8 @@ pub loop-b-preserved : goal.loop-b-preserved
 loop-b-preserved c =
     hex_more c.args.bytes.now c.loop-b.b-index (string_bytes c.loop-b.text) (string_bytes c.push.new.self) (string_bytes c.push-in-loop-b.new.self) _ _
     c.loop-b-test.true c.loop-b.invariant
-    c.in-ok-push.ensures.bytes (c.push.ensures.ascii c.digit.ensures.small ∙ ap (λ d. d ∷ []) c.digit.ensures.shows)
-    c.in-ok-push-2.ensures.bytes (c.push-in-loop-b.ensures.ascii c.digit-in-loop-b.ensures.small ∙ ap (λ d. d ∷ []) c.digit-in-loop-b.ensures.shows)
+    c.in_ok-push.ensures.bytes (c.push.ensures.ascii c.digit.ensures.small ∙ ap (λ d. d ∷ []) c.digit.ensures.shows)
+    c.in_ok-push-2.ensures.bytes (c.push-in-loop-b.ensures.ascii c.digit-in-loop-b.ensures.small ∙ ap (λ d. d ∷ []) c.digit-in-loop-b.ensures.shows)
 
 pub returns : goal.returns
 returns c =

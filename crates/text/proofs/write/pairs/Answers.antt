@@ -13,13 +13,13 @@ loop-x-init g c =
 
 pub loop-x-preserved : goal.loop-x-preserved
 loop-x-preserved g c =
-    let p : ℕ × ℕ = (c.to-code.result.0, c.to-code-in-loop-x.result.0) in
-    let grown : string_bytes c.push-str.new.self ≡ string_bytes c.loop-x.text ++ pair_text p =
-    c.in-ok-push-str.ensures.bytes ∙ ap (λ t. string_bytes c.loop-x.text ++ t) (c.as-str.ensures.value ∙ c.in-ok-format.ensures.ok) in
+    let p : ℕ × ℕ = (c.to_code.result.0, c.to_code-in-loop-x.result.0) in
+    let grown : string_bytes c.push_str.new.self ≡ string_bytes c.loop-x.text ++ pair_text p =
+    c.in_ok-push_str.ensures.bytes ∙ ap (λ t. string_bytes c.loop-x.text ++ t) (c.as_str.ensures.value ∙ c.in_ok-format.ensures.ok) in
     shown_more (both_mean g.F.Ring.value) (both_named (λ k. g.F.Ring.value (g.F.Field.at k))) (λ q. (q.0 < g.F.Field.order) × (q.1 < g.F.Field.order)) pair_text
-    c.args.duals.now c.loop-x.x-index (string_bytes c.loop-x.text) (string_bytes c.push-str.new.self) c.x-item.result p
-    c.loop-x-test.true c.x-item.is (cc (c.to-code.ensures.means, c.to-code-in-loop-x.ensures.means))
-    (c.to-code.ensures.below, c.to-code-in-loop-x.ensures.below) grown c.loop-x.invariant
+    c.args.duals.now c.loop-x.x-index (string_bytes c.loop-x.text) (string_bytes c.push_str.new.self) c.x-item.result p
+    c.loop-x-test.true c.x-item.is (cc (c.to_code.ensures.means, c.to_code-in-loop-x.ensures.means))
+    (c.to_code.ensures.below, c.to_code-in-loop-x.ensures.below) grown c.loop-x.invariant
 
 pub returns : goal.returns
 returns g c =

@@ -5,7 +5,7 @@ use Rattle.fields.proofs.seventeen.SeventeenField.from_code.Goals as goal
 
 pub returns : goal.returns
 returns c = record {
-  means = ap meaning c.element-of.ensures;
-  held = subst Least (sym c.element-of.ensures) (element_least c.args.code.0);
+  means = ap meaning c.element_of.ensures;
+  held = subst Least (sym c.element_of.ensures) (element_least c.args.code.0);
   coded = is_coded;
 }

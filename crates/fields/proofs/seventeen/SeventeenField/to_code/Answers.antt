@@ -5,6 +5,6 @@ use Rattle.fields.proofs.seventeen.SeventeenField.to_code.Goals as goal
 
 pub returns : goal.returns
 returns c = record {
-  means = ap (λ (n : ℕ). meaning (element n)) c.code-of.ensures ∙ of_code c.args.self;
-  below = omega (arith, c.code-of.ensures, code_under c.args.self);
+  means = ap (λ (n : ℕ). meaning (element n)) c.code_of.ensures ∙ of_code c.args.self;
+  below = omega (arith, c.code_of.ensures, code_under c.args.self);
 }

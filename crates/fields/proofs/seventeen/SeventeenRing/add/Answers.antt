@@ -5,7 +5,7 @@ use Rattle.fields.proofs.seventeen.SeventeenRing.add.Goals as goal
 
 pub returns : goal.returns
 returns c =
-    let is : c.element-of.result ≡ element ((coding c.args.self + coding c.args.other) % 17) = c.element-of.ensures ∙ ap element c.sum-of.ensures in
+    let is : c.element_of.result ≡ element ((coding c.args.self + coding c.args.other) % 17) = c.element_of.ensures ∙ ap element c.sum_of.ensures in
     record {
       means = ap meaning is ∙ sum-means c.args.self c.args.other;
       held = subst Least (sym is) (element_least ((coding c.args.self + coding c.args.other) % 17));

@@ -37,7 +37,7 @@ returns-then-not-same g c =
     record {
       answers = search rules;
       compares = tell;
-      reaches = reaches R.ring g.met.F.Ring.lawful F.order F.odd F.levels (element R F) (R.value F.zeta) c.field-laws-order.ensures.laws (contents R s) (contents R t) false (search rules) tell;
+      reaches = reaches R.ring g.met.F.Ring.lawful F.order F.odd F.levels (element R F) (R.value F.zeta) c.field_laws-order.ensures.laws (contents R s) (contents R t) false (search rules) tell;
     }
 
 pub returns : goal.returns
@@ -50,5 +50,5 @@ returns g c =
     record {
       answers = search rules;
       compares = tell;
-      reaches = reaches R.ring g.met.F.Ring.lawful F.order F.odd F.levels (element R F) (R.value F.zeta) c.field-laws-order.ensures.laws (contents R s) (contents R t) true (search rules) tell;
+      reaches = reaches R.ring g.met.F.Ring.lawful F.order F.odd F.levels (element R F) (R.value F.zeta) c.field_laws-order.ensures.laws (contents R s) (contents R t) true (search rules) tell;
     }

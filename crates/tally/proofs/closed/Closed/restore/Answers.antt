@@ -17,7 +17,7 @@ loop-k-preserved g c =
       | then-k-codes w ↦ let l : i < length codes = omega arith in ap (λ x. x.0) w.code-is ∙ ap (λ x. x.0) (get_or_default codes i _ _ l)
       | else-k-codes w ↦ ap (λ x. x.0) w.code-is ∙ sym (ap (λ x. x.0) (get_or_past codes i (record { 0 = 0 }) (omega arith)))
     ] in
-    let here = c.from-code.ensures.means ∙ ap (λ n. R.value (g.F.Field.at n)) told in (
-      mapped_more R.value R.ring.nought (λ k. R.value (g.F.Field.at (code_at c.args.codes.now k))) sums i c.from-code.result inside here c.loop-k.invariant.0,
-      place_more (λ k. R.canonical) sums i c.from-code.result inside c.from-code.ensures.held c.loop-k.invariant.1,
+    let here = c.from_code.ensures.means ∙ ap (λ n. R.value (g.F.Field.at n)) told in (
+      mapped_more R.value R.ring.nought (λ k. R.value (g.F.Field.at (code_at c.args.codes.now k))) sums i c.from_code.result inside here c.loop-k.invariant.0,
+      place_more (λ k. R.canonical) sums i c.from_code.result inside c.from_code.ensures.held c.loop-k.invariant.1,
     )

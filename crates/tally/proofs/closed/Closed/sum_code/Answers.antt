@@ -8,7 +8,7 @@ returns-then-k-count g c =
     let sums = c.args.self.now.body.sums in
     let inside : c.args.k < length sums = search rules in
     record {
-      below = c.to-code.ensures.below;
-      means = λ h. c.to-code.ensures.means ∙ read_value g.F.Ring.value sums c.args.k _ g.F.Ring.ring.nought inside (get_or_default sums c.args.k _ _ inside);
+      below = c.to_code.ensures.below;
+      means = λ h. c.to_code.ensures.means ∙ read_value g.F.Ring.value sums c.args.k _ g.F.Ring.ring.nought inside (get_or_default sums c.args.k _ _ inside);
       past = λ h. let none : ⊥ = omega (arith, c.count.ensures) in absurd none;
     }

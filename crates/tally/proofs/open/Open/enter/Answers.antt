@@ -30,7 +30,7 @@ returns g c =
       width = ap (λ f. f.width) r.frame.0;
       spare = ap (λ f. f.spare) r.frame.0;
       turnover = c.in-Ok.ensures.turnover;
-      sum = λ k h. r.sums k h ∙ ap₂ (λ n a. o.plus ((contents R c.args.self.now.body).sum k) (o.times n (power o a k))) c.whole.ensures.means c.from-code.ensures.means;
+      sum = λ k h. r.sums k h ∙ ap₂ (λ n a. o.plus ((contents R c.args.self.now.body).sum k) (o.times n (power o a k))) c.whole.ensures.means c.from_code.ensures.means;
     } in
     record {
       answers = c.in-Ok.ensures.answers;

@@ -34,7 +34,7 @@ returns g c =
       turnover = c.in-Ok.ensures.turnover;
       sum = λ k h.
           r.sums k h
-          ∙ ap₂ (λ n a. o.plus ((contents R c.args.self.now.body).sum k) (o.times n (power o a k))) (c.neg.ensures.means ∙ ap o.minus c.whole.ensures.means) c.from-code.ensures.means
+          ∙ ap₂ (λ n a. o.plus ((contents R c.args.self.now.body).sum k) (o.times n (power o a k))) (c.neg.ensures.means ∙ ap o.minus c.whole.ensures.means) c.from_code.ensures.means
           ∙ ap (o.plus ((contents R c.args.self.now.body).sum k)) (minus-times o L (number o c.args.quantity) (power o (element R F c.args.code.0) k));
     } in
     record {
