@@ -11,7 +11,7 @@ use algebra::field::Field;
 pub(crate) fn build<F: Field>(codes: &[Code], work: &mut [Dual<F>])
     requires room { (F.Field.levels + 1) * length codes.now ≤ length work.old }
     requires few { length codes.now ≤ 257 }
-    ensures { Holds F.Ring F.Field (polynomial F.Ring F.Field codes.now) (length codes.now) work.new }
+    ensures { Holds F.Ring F.Field.own (polynomial F.Ring F.Field.own codes.now) (length codes.now) work.new }
 {
     let n = codes.len();
     start(codes, work, 0);

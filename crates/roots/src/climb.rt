@@ -15,7 +15,7 @@ use algebra::ring::Ring;
 pub(crate) fn start<F: Field>(codes: &[Code], work: &mut [Dual<F>], at: usize)
     requires room { at + length codes.now ≤ length work.old }
     requires few { length codes.now ≤ 257 }
-    ensures written { duals F.Ring (take (length codes.now) (drop at work.new)) ≡ tangent F.Ring.ring (polynomial F.Ring F.Field codes.now) }
+    ensures written { duals F.Ring (take (length codes.now) (drop at work.new)) ≡ tangent F.Ring.ring (polynomial F.Ring F.Field.own codes.now) }
     ensures held { (j : ℕ) (d : Dual F) → j < length codes.now → Held F.Ring (slice_index_or work.new (at + j) d) }
 {
     let n = codes.len();

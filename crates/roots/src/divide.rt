@@ -31,8 +31,8 @@ pub(crate) fn multiplicity<F: Field>(codes: &[Code], work: &mut [Dual<F>], a: F)
     requires room { length codes.now ≤ length work.old }
     requires few { length codes.now ≤ 257 }
     requires some { 0 < length codes.now }
-    requires top { coefficient F.Ring.ring (polynomial F.Ring F.Field codes.now) (length codes.now - 1) ≢ F.Ring.ring.nought }
-    ensures { Multiplicity F.Ring.ring (polynomial F.Ring F.Field codes.now) (F.Ring.value a) result }
+    requires top { coefficient F.Ring.ring (polynomial F.Ring F.Field.own codes.now) (length codes.now - 1) ≢ F.Ring.ring.nought }
+    ensures { Multiplicity F.Ring.ring (polynomial F.Ring F.Field.own codes.now) (F.Ring.value a) result }
 {
     let n = codes.len();
     start(codes, work, 0);

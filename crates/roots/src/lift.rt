@@ -20,7 +20,7 @@ pub fn lift<F: Field>(
     work: &mut [Dual<F>],
 ) -> Result<Option<Code>, Refusal>
     ensures answers { reply result ≡ lifting F.Field.order F.Field.levels f.now k code.0 (length work.old) }
-    ensures lifts { MatchResult result (Lifted F.Ring F.Field (polynomial F.Ring F.Field f.now) k (element F.Ring F.Field code.0)) (λ _. work.new ≡ work.old) }
+    ensures lifts { MatchResult result (Lifted F.Ring F.Field.own (polynomial F.Ring F.Field.own f.now) k (element F.Ring F.Field.own code.0)) (λ _. work.new ≡ work.old) }
 {
     check::<F>(f)?;
     if k == 0 || k > F::height() {

@@ -28,7 +28,7 @@ pub fn roots<F: Field>(
     work: &mut [Dual<F>],
 ) -> Result<RootList, Refusal>
     ensures answers { reply result ≡ listing F.Field.order F.Field.levels f.now (length list.old) (length work.old) }
-    ensures lists { MatchResult result (λ a. Listed F.Ring F.Field (polynomial F.Ring F.Field f.now) list.old list.new a.count a.splits a.trials) (λ _. (list.new ≡ list.old) × (work.new ≡ work.old)) }
+    ensures lists { MatchResult result (λ a. Listed F.Ring F.Field.own (polynomial F.Ring F.Field.own f.now) list.old list.new a.count a.splits a.trials) (λ _. (list.new ≡ list.old) × (work.new ≡ work.old)) }
 {
     check::<F>(f)?;
     let _order = field_laws::<F>();

@@ -16,11 +16,11 @@ use algebra::field::{Field, field_laws};
 // Finds all roots of f: zero by its first coefficient, the others from the powers of the primitive element that the top level is tried at.
 pub(crate) fn search<F: Field>(f: &[Code], work: &[Dual<F>], list: &mut [RootRecord]) -> Found
     requires good { coded F.Field.order f.now ≡ accepted }
-    requires holds { Holds F.Ring F.Field (polynomial F.Ring F.Field f.now) (length f.now) work.now }
+    requires holds { Holds F.Ring F.Field.own (polynomial F.Ring F.Field.own f.now) (length f.now) work.now }
     requires room { length f.now - 1 ≤ length list.old }
     ensures ascending { Ascending (codes_of (take result.count list.new)) }
-    ensures roots { (c : ℕ) → In c (codes_of (take result.count list.new)) ↔ Root F.Ring F.Field (polynomial F.Ring F.Field f.now) c }
-    ensures tried { Trials F.Ring F.Field (polynomial F.Ring F.Field f.now) result.trials }
+    ensures roots { (c : ℕ) → In c (codes_of (take result.count list.new)) ↔ Root F.Ring F.Field.own (polynomial F.Ring F.Field.own f.now) c }
+    ensures tried { Trials F.Ring F.Field.own (polynomial F.Ring F.Field.own f.now) result.trials }
     ensures inside { result.count ≤ length list.new }
     ensures rest { drop result.count list.new ≡ drop result.count list.old }
 {

@@ -53,7 +53,7 @@ fn lifted<F: Field>(k: u32, x: F, slope: F, tangent: F) -> F
 pub(crate) fn judge<F: Field>(work: &[Dual<F>], at: usize, n: usize, k: u32, x: F) -> Verdict
     requires room { at + n ≤ length work.now }
     requires nonzero { F.Ring.value x ≢ F.Ring.ring.nought }
-    ensures { (f : List F.Ring.ring.V) → duals F.Ring (take n (drop at work.now)) ≡ tower (dual F.Ring.ring) (tangent F.Ring.ring f) k → Judged F.Ring F.Field f k (F.Ring.value x) result }
+    ensures { (f : List F.Ring.ring.V) → duals F.Ring (take n (drop at work.now)) ≡ tower (dual F.Ring.ring) (tangent F.Ring.ring f) k → Judged F.Ring F.Field.own f k (F.Ring.value x) result }
 {
     let _order = field_laws::<F>();
     let tried = evaluate(&work[at..at + n], x);

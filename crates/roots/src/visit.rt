@@ -23,11 +23,11 @@ pub(crate) fn visit<F: Field>(
     list: &mut [RootRecord],
     found: &mut Found,
 )
-    requires holds { Holds F.Ring F.Field (polynomial F.Ring F.Field f.now) (length f.now) work.now }
-    requires ready { Ready F.Ring F.Field (polynomial F.Ring F.Field f.now) k e.0 (codes_of (take found.old.count list.old)) }
+    requires holds { Holds F.Ring F.Field.own (polynomial F.Ring F.Field.own f.now) (length f.now) work.now }
+    requires ready { Ready F.Ring F.Field.own (polynomial F.Ring F.Field.own f.now) k e.0 (codes_of (take found.old.count list.old)) }
     requires room { (length f.now - 1 ≤ length list.old) × (found.old.count ≤ length list.old) }
     requires few { found.old.trials + 2 ^ (k + 1) ≤ 2 ^ 63 }
-    ensures visited { Visited F.Ring F.Field (polynomial F.Ring F.Field f.now) k e.0 (codes_of (take found.old.count list.old)) (codes_of (take found.new.count list.new)) found.old.trials found.new.trials }
+    ensures visited { Visited F.Ring F.Field.own (polynomial F.Ring F.Field.own f.now) k e.0 (codes_of (take found.old.count list.old)) (codes_of (take found.new.count list.new)) found.old.trials found.new.trials }
     ensures inside { (found.old.count ≤ found.new.count) × (found.new.count ≤ length list.new) }
     ensures rest { drop found.new.count list.new ≡ drop found.new.count list.old }
 {

@@ -21,7 +21,7 @@ pub(crate) fn weigh<F: Field>(
     requires room { length f.now ≤ length work.old }
     requires inside { count ≤ length list.old }
     ensures codes { (k : ℕ) (d : RootRecord) → (slice_index_or list.new k d).code ≡ (slice_index_or list.old k d).code }
-    ensures weighed { (k : ℕ) (d : RootRecord) → k < count → Multiplicity F.Ring.ring (polynomial F.Ring F.Field f.now) (element F.Ring F.Field (slice_index_or list.new k d).code.0) (slice_index_or list.new k d).multiplicity }
+    ensures weighed { (k : ℕ) (d : RootRecord) → k < count → Multiplicity F.Ring.ring (polynomial F.Ring F.Field.own f.now) (element F.Ring F.Field.own (slice_index_or list.new k d).code.0) (slice_index_or list.new k d).multiplicity }
     ensures rest { drop count list.new ≡ drop count list.old }
 {
     let _order = field_laws::<F>();

@@ -40,7 +40,7 @@ impl<F: Field> Closed<F> {
     // The code of the sum k; code 0 where the frame has no such sum.
     pub fn sum_code(&self, k: usize) -> Code
         ensures below { result.0 < F.Field.order }
-        ensures means { k < 2 * self.now.body.frame.width + self.now.body.frame.spare → element F.Ring F.Field result.0 ≡ (contents F.Ring self.now.body).sum k }
+        ensures means { k < 2 * self.now.body.frame.width + self.now.body.frame.spare → element F.Ring F.Field.own result.0 ≡ (contents F.Ring self.now.body).sum k }
         ensures past { 2 * self.now.body.frame.width + self.now.body.frame.spare ≤ k → result.0 ≡ 0 }
     {
         let _order = F::size();
@@ -54,7 +54,7 @@ impl<F: Field> Closed<F> {
     pub fn restore(&mut self, frame: Frame, turnover: u32, codes: &[Code])
         ensures framed { self.new.body.frame ≡ frame }
         ensures turned { self.new.body.turnover ≡ turnover }
-        ensures sums { (k : ℕ) → k < 96 → (contents F.Ring self.new.body).sum k ≡ element F.Ring F.Field (code_at codes.now k) }
+        ensures sums { (k : ℕ) → k < 96 → (contents F.Ring self.new.body).sum k ≡ element F.Ring F.Field.own (code_at codes.now k) }
         ensures held { (k : ℕ) (d : F) → k < 96 → F.Ring.canonical (slice_index_or self.new.body.sums k d) }
     {
         for k in 0..96 {

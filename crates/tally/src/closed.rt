@@ -19,7 +19,7 @@ impl<F: Field> Closed<F> {
     pub fn compare(&self, other: &Closed<F>) -> Result<bool, Refusal>
         ensures answers { reply result ≡ comparing (contents F.Ring self.now.body) (contents F.Ring other.now.body) }
         ensures compares { IfOk result (λ b. (b ≡ true) ↔ Agree (contents F.Ring self.now.body) (contents F.Ring other.now.body)) }
-        ensures reaches { IfOk result (Reaches F.Ring.ring F.Field.order (element F.Ring F.Field) (contents F.Ring self.now.body) (contents F.Ring other.now.body)) }
+        ensures reaches { IfOk result (Reaches F.Ring.ring F.Field.order (element F.Ring F.Field.own) (contents F.Ring self.now.body) (contents F.Ring other.now.body)) }
     {
         let _order = field_laws::<F>();
         let frame = self.body.frame;
