@@ -65,7 +65,7 @@ visit-requires g t c κs within =
           c.requires.holds,
           (
             both_first R F g.met.F.Ring.lawful c.field_laws-order.ensures.laws f k e _ both.0 c.requires.ready (both.1, both.2),
-            (c.requires.room.0, (c.requires.room.1, few_first c.args.found.now.trials k both.0 c.requires.few)),
+            (c.requires.room, few_first c.args.found.now.trials k both.0 c.requires.few),
           ),
         ),
       ),
@@ -92,7 +92,7 @@ visit-requires-in-Both g t c κs within =
           c.requires.holds,
           (
             subst (λ q. Ready R F f (k - 1) (e / 2 + (q - 1) / 2) (codes (take c.visit.new.found.count c.visit.new.list))) (sym c.field_laws-order.ensures.answer) ready,
-            (omega (arith, c.requires.room.0, c.visit.auto.list), (c.visit.ensures.inside.1, few_second c.args.found.now.trials c.visit.new.found.trials k both.0 c.requires.few w.few)),
+            ((omega (arith, c.requires.room.0, c.visit.auto.list), c.visit.ensures.inside.1), few_second c.args.found.now.trials c.visit.new.found.trials k both.0 c.requires.few w.few),
           ),
         ),
       ),
