@@ -1,12 +1,12 @@
 -- The coefficients of f(x) f(-x), and that those of the transform make it.
-use Rattle.std.proofs.Common.{◌≡◌, ℕ, zero, suc, ◌+◌, ◌-◌, ◌*◌, ◌/◌, ◌%◌, ◌<◌, ◌≤◌, ◌⊎◌, List, [], ◌∷◌, map, length, get_or, sym, refl, ap, ◌∙◌, inl, inr, ⊎_elim, add-zero, add-suc, suc-add, zero-add, arith}
+use Rattle.std.proofs.Common.{◌≡◌, ℕ, zero, suc, ◌+◌, ◌-◌, ◌/◌, ◌%◌, ◌<◌, ◌≤◌, ◌⊎◌, List, [], ◌∷◌, map, length, sym, refl, ap, ◌∙◌, inl, inr, ⊎_elim, add-zero, add-suc, suc-add, arith}
 use lib.ListN.{length-map}
 use Rattle.std.proofs.lemmas.List.{get_or_past}
 use Rattle.std.proofs.lemmas.Bool.{cases_lt}
-use Rattle.algebra.specs.Rings.{Ops, Lawful, power}
+use Rattle.algebra.specs.Rings.{Ops, Lawful}
 use Rattle.algebra.specs.Polynomials.{coefficient, scale, product, alternate, spread, sign}
 use Rattle.algebra.specs.Graeffe.{Graeffe, evens, transform}
-use Rattle.algebra.specs.RingsLemmas.{plus_left, times_left, nought-plus, unit-times, plus_times, times-nought, nought-times, minus_minus, minus_plus, minus-nought, times-minus, minus-times, power-add}
+use Rattle.algebra.specs.RingsLemmas.{times_left, unit-times, times-nought, minus_minus, minus_plus, minus-nought, times-minus, minus-times, power-add}
 use Rattle.algebra.proofs.Sums.{total, total_front, total-nought, total_same, total_split, total-reverse}
 use Rattle.algebra.proofs.Polynomials.{sign-suc, coefficient-scale, coefficient-product, coefficient-alternate, coefficient-spread_even, coefficient-spread_odd, length-spread, length-product, length-alternate, same_polynomial}
 

@@ -1,10 +1,10 @@
 -- Laws of polynomials: their values, coefficients and lengths.
-use Rattle.std.proofs.Common.{◌≡◌, ℕ, zero, suc, ◌+◌, ◌-◌, ◌<◌, ◌≤◌, List, [], ◌∷◌, map, length, get_or, sym, refl, ap, ◌∙◌, add-zero, add-suc, suc-add, zero-add, arith}
+use Rattle.std.proofs.Common.{◌≡◌, ℕ, zero, suc, ◌+◌, ◌-◌, ◌≤◌, List, [], ◌∷◌, map, length, sym, refl, ap, ◌∙◌, add-suc, suc-add, arith}
 use lib.ListN.{length-map}
 use Rattle.std.proofs.lemmas.List.{ext_get_or}
-use Rattle.algebra.specs.Rings.{Ops, Lawful, power}
+use Rattle.algebra.specs.Rings.{Ops, Lawful}
 use Rattle.algebra.specs.Polynomials.{eval, coefficient, sum, scale, product, alternate, spread, sign}
-use Rattle.algebra.specs.RingsLemmas.{plus_left, times_left, nought-plus, unit-times, plus_times, times-nought, nought-times, minus_minus, minus_plus, minus-nought, times-minus, minus-times}
+use Rattle.algebra.specs.RingsLemmas.{plus_left, times_left, nought-plus, unit-times, plus_times, times-nought, nought-times, minus_plus, minus-nought, times-minus, minus-times}
 use Rattle.algebra.proofs.Sums.{total, total_front, total-nought, total_same}
 
 module _ (o : Ops) (L : Lawful o) where

@@ -1,5 +1,5 @@
 -- A power by squaring: answer times square to what is left stays the same.
-use Rattle.std.proofs.Common.{◌≡◌, ℕ, zero, suc, ◌+◌, ◌*◌, ◌/◌, ◌%◌, ◌≢◌, sym, refl, ap, ◌∙◌, arith}
+use Rattle.std.proofs.Common.{◌≡◌, ℕ, suc, ◌+◌, ◌/◌, ◌%◌, ◌≢◌, sym, refl, ap, ◌∙◌, arith}
 use Rattle.algebra.specs.Rings.{Ops, Lawful, power, raised}
 use Rattle.algebra.specs.RingsLemmas.{unit-times, power-add, power-times}
 

@@ -1,7 +1,7 @@
 -- Sums of finitely many values of a ring.
 use Rattle.std.proofs.Common.{◌≡◌, ℕ, zero, suc, ◌+◌, ◌-◌, ◌<◌, sym, refl, ap, ◌∙◌, add-zero, add-suc, arith}
 use Rattle.algebra.specs.Rings.{Ops, Lawful}
-use Rattle.algebra.specs.RingsLemmas.{plus_left, nought-plus, times-nought}
+use Rattle.algebra.specs.RingsLemmas.{times-nought}
 
 -- u 0 + .. + u (n - 1)
 abbrev pub total : (o : Ops) → (ℕ → o.V) → ℕ → o.V

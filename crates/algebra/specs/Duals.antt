@@ -1,5 +1,5 @@
 -- Dual numbers u + v ε over a ring, with ε ε = 0.
-use Rattle.std.specs.Prelude.{Bool, ◌&&◌}
+use Rattle.std.specs.Prelude.{◌&&◌}
 use Rattle.algebra.specs.Rings.{Ops}
 
 -- u at 0, v at 1

@@ -1,10 +1,10 @@
 -- The dual numbers over a lawful ring are a lawful ring.
-use Rattle.std.specs.Prelude.{◌≡◌, Bool, true, ◌&&◌, refl}
-use Rattle.std.proofs.Common.{sym, ap, ◌∙◌}
+use Rattle.std.specs.Prelude.{◌≡◌}
+use Rattle.std.proofs.Common.{ap}
 use Rattle.std.proofs.lemmas.Bool.{and_parts, and_from}
 use Rattle.algebra.specs.Rings.{Ops, Lawful}
 use Rattle.algebra.specs.Duals.{dual}
-use Rattle.algebra.specs.RingsLemmas.{plus_left, times_left, times-nought, nought-plus, plus_times}
+use Rattle.algebra.specs.RingsLemmas.{plus_left, times-nought, nought-plus, plus_times}
 
 both : {A B : Type 0} {a c : A} {b d : B} → a ≡ c → b ≡ d → ◌≡◌ {A = A × B} (a, b) (c, d)
 both p q = λ i. (p i, q i)

@@ -1,6 +1,6 @@
 -- Laws that follow from those of a commutative ring.
 use Rattle.std.specs.Prelude.{◌≡◌, ℕ, zero, suc, ◌+◌, ◌*◌, refl}
-use Rattle.std.proofs.Common.{sym, ap, ◌∙◌, zero-add, suc-add, suc-mul, zero-mul, add_comm}
+use Rattle.std.proofs.Common.{sym, ap, ◌∙◌, zero-add, suc-add, suc-mul, zero-mul}
 use Rattle.algebra.specs.Rings.{Ops, Lawful, power, number}
 
 module _ (o : Ops) (L : Lawful o) where

@@ -1,5 +1,5 @@
 -- The levels of the tower in one work space.
-use Rattle.std.proofs.Common.{◌≡◌, ℕ, suc, ◌+◌, ◌*◌, ◌<◌, ◌≤◌, ◌⊎◌, List, length, get_or, take, drop, sym, refl, ap, ◌∙◌, inl, inr, ⊎_elim, mul-le-mul_right, add-mul, eq-or-lt_of_le, one-mul, arith}
+use Rattle.std.proofs.Common.{◌≡◌, ℕ, ◌+◌, ◌*◌, ◌<◌, ◌≤◌, ◌⊎◌, List, length, get_or, take, drop, ap, ◌∙◌, inl, mul-le-mul_right, add-mul, one-mul, arith}
 use Rattle.roots.proofs.Segments.{segment_same}
 
 -- the place behind a level

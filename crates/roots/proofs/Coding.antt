@@ -1,12 +1,11 @@
 -- What an accepted row of codes is, and the figures of the search.
-use Rattle.std.proofs.Common.{◌≡◌, ℕ, zero, suc, ◌+◌, ◌-◌, ◌*◌, ◌/◌, ◌^◌, ◌<◌, ◌≤◌, true, false, cond, eqb, ltb, leb, ◌≢◌, List, [], ◌∷◌, map, length, get_or, sym, refl, ap, ◌∙◌, mul-le-mul_right, add-mul, mul-le-mul_left, one-mul, add-one, arith}
+use Rattle.std.proofs.Common.{◌≡◌, ℕ, zero, suc, ◌+◌, ◌-◌, ◌*◌, ◌/◌, ◌^◌, ◌<◌, ◌≤◌, true, false, cond, leb, ◌≢◌, List, [], ◌∷◌, map, length, get_or, sym, refl, ap, ◌∙◌, mul-le-mul_right, add-mul, one-mul, add-one, arith}
 use native.Mathlib.Nat.{mul-div_cancel_left}
-use lib.ListN.{length-map}
 use Rattle.std.proofs.lemmas.List.{get_or-map}
-use Rattle.std.proofs.lemmas.Bool.{leb-true, leb-false}
+use Rattle.std.proofs.lemmas.Bool.{leb-false}
 use Rattle.std.proofs.lemmas.Bool.Decides.{nat_tests}
-use Rattle.algebra.specs.Rings.{Ops, Lawful}
-use Rattle.algebra.specs.Fields.{IsField, Bounded, Tower}
+use Rattle.algebra.specs.Rings.{Lawful}
+use Rattle.algebra.specs.Fields.{IsField}
 use Rattle.algebra.specs.Polynomials.{eval, coefficient}
 use Rattle.algebra.specs.Refusals.{accepted}
 use Rattle.algebra.specs.declared.code.Code.{Code}

@@ -6,12 +6,12 @@ use Rattle.algebra.specs.Polynomials.{eval, coefficient}
 use Rattle.algebra.specs.declared.dual.Dual.{Dual}
 use Rattle.algebra.specs.declared.ring.Ring.{Ghosts as RingOf}
 use Rattle.algebra.specs.RingsLemmas.{times-nought}
-use Rattle.roots.specs.Division.{Multiplicity, quotient}
+use Rattle.roots.specs.Division.{quotient}
 use Rattle.roots.specs.Slopes.{reals}
 use Rattle.roots.specs.Codes.{duals}
 use Rattle.roots.specs.Rows.{row, partial}
 use Rattle.roots.proofs.Division.{quotient-value, quotient_next, length-quotient}
-use Rattle.roots.proofs.Multiplicities.{divided, divided-suc, multiplicity_from}
+use Rattle.roots.proofs.Multiplicities.{divided}
 use Rattle.roots.proofs.RootBounds.{constant_value, divided-length, divided-top}
 use Rattle.roots.proofs.Segments.{segment_value, segment_is, segment_length}
 

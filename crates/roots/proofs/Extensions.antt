@@ -1,10 +1,9 @@
 -- A ring with a square root of y adjoined: u + v r with r r = y.
-use Rattle.std.proofs.Common.{◌≡◌, ◌&&◌, List, [], ◌∷◌, map, sym, refl, ap, ◌∙◌, ap₂}
+use Rattle.std.proofs.Common.{◌≡◌, ◌&&◌, List, [], ◌∷◌, map, refl, ap, ◌∙◌}
 use Rattle.std.proofs.lemmas.Bool.{and_parts, and_from}
 use Rattle.algebra.specs.Rings.{Ops, Lawful}
-use Rattle.algebra.specs.Polynomials.{eval, sign}
-use Rattle.algebra.specs.Graeffe.{transform}
-use Rattle.algebra.proofs.Solver.{v, 𝟎, 𝟏, ◌⊕◌, ◌⊗◌, ⊖◌, ◌⊝◌, solve}
+use Rattle.algebra.specs.Polynomials.{eval}
+use Rattle.algebra.proofs.Solver.{v, 𝟎, 𝟏, ◌⊕◌, ◌⊗◌, ⊖◌, solve}
 use Rattle.roots.proofs.Homs.{Hom}
 use Rattle.roots.proofs.Slopes.{pair_path}
 

@@ -1,21 +1,18 @@
 -- One Graeffe transform: what it does to values, derivatives and roots.
-use Rattle.std.proofs.Common.{◌≡◌, ℕ, ◌-◌, ◌≢◌, ◌⊎◌, List, [], ◌∷◌, map, length, sym, refl, ap, ◌∙◌, subst, ap₂, inl, inr, ⊎_elim}
+use Rattle.std.proofs.Common.{◌≡◌, ◌-◌, List, [], ◌∷◌, map, length, sym, refl, ap, ◌∙◌, subst, ap₂}
 use lib.ListN.{length-map}
 use Rattle.algebra.specs.Rings.{Ops, Lawful}
-use Rattle.algebra.specs.Fields.{Invertible}
 use Rattle.algebra.specs.Duals.{dual}
-use Rattle.algebra.specs.Polynomials.{eval, scale, product, alternate, spread, sign}
-use Rattle.algebra.specs.Graeffe.{Graeffe, transform}
+use Rattle.algebra.specs.Polynomials.{eval, product, alternate, sign}
+use Rattle.algebra.specs.Graeffe.{transform}
 use Rattle.algebra.specs.DualsLemmas.{dual_lawful}
-use Rattle.algebra.specs.RingsLemmas.{times-nought, nought-times, plus_cancel}
-use Rattle.algebra.proofs.Fields.{decide, no_divisors, times_nonzero, times_cancel}
 use Rattle.algebra.proofs.Polynomials.{eval-spread, eval-scale, eval-product, eval-alternate}
-use Rattle.algebra.proofs.GraeffeLaws.{transform_law, sign_square}
-use Rattle.algebra.proofs.Solver.{v, 𝟎, 𝟏, ◌⊕◌, ◌⊗◌, ⊖◌, ◌⊝◌, solve, solve₁, solve₂}
+use Rattle.algebra.proofs.GraeffeLaws.{transform_law}
+use Rattle.algebra.proofs.Solver.{v, 𝟎, 𝟏, ◌⊕◌, ◌⊗◌, ⊖◌, solve, solve₁, solve₂}
 use Rattle.roots.proofs.Homs.{Hom, map-eval, map-sign, map-transform}
 use Rattle.roots.specs.Slopes.{slope, reals, epsilons}
 use Rattle.roots.proofs.Slopes.{pair_path, eval-dual, real_hom, embed_hom}
-use Rattle.roots.proofs.Extensions.{extension, even_odd, extension_lawful, extend_hom, eval_root, eval_other, eval_square}
+use Rattle.roots.proofs.Extensions.{extension, even_odd, extension_lawful, extend_hom, eval_root, eval_other}
 
 -- the sign of a transform
 abbrev pub turn : (o : Ops) {X : Type 0} → List X → o.V

@@ -1,6 +1,6 @@
 -- A pass that carries a code to its place.
-use Rattle.std.proofs.Common.{◌≡◌, ℕ, ◌+◌, ◌<◌, ◌≤◌, true, false, cond, ltb, List, [], ◌∷◌, ◌++◌, map, length, get_or, take, drop, set, sym, refl, ap, ◌∙◌, ap₂, add-zero, arith, length-take}
-use Rattle.std.proofs.lemmas.List.{append_assoc, map-append, take_more, take_more_set, drop_more, drop_all, take_all, get_or-drop, get_or-take, drop-drop}
+use Rattle.std.proofs.Common.{◌≡◌, ℕ, ◌+◌, ◌<◌, ◌≤◌, cond, List, [], ◌∷◌, ◌++◌, length, get_or, take, drop, set, sym, ap, ◌∙◌, ap₂, add-zero, arith, length-take}
+use Rattle.std.proofs.lemmas.List.{append_assoc, map-append, take_more, take_more_set, drop_more, drop_all, get_or-drop, get_or-take, drop-drop}
 use Rattle.std.proofs.lemmas.Bool.{lt-ltb, le-ltb}
 use Rattle.roots.specs.Lists.{put}
 use Rattle.roots.specs.Roots.{codes}

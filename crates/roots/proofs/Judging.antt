@@ -1,5 +1,5 @@
 -- What a trial tells, from the values that it computed.
-use Rattle.std.proofs.Common.{◌≡◌, ℕ, zero, suc, ◌+◌, ◌*◌, ◌^◌, ◌<◌, true, false, ◌≢◌, ◌⊎◌, List, [], ◌∷◌, sym, refl, ap, ◌∙◌, subst, ap₂, inl, inr, mul_comm, pow-suc, arith}
+use Rattle.std.proofs.Common.{◌≡◌, ℕ, zero, suc, ◌^◌, ◌<◌, true, false, ◌≢◌, List, [], ◌∷◌, sym, refl, ap, ◌∙◌, subst, inl, inr, mul_comm, pow-suc}
 use Rattle.std.proofs.lemmas.Bool.{both_ways}
 use Rattle.algebra.specs.Rings.{Ops, Lawful, power, number, raised}
 use Rattle.algebra.specs.Fields.{IsField}
@@ -11,7 +11,7 @@ use Rattle.algebra.specs.declared.field.Field.{Ghosts as FieldOf}
 use Rattle.algebra.specs.RingsLemmas.{number-times}
 use Rattle.algebra.proofs.Raised.{raised-power}
 use Rattle.algebra.proofs.Fields.{two_nonzero, times_cancel}
-use Rattle.algebra.proofs.Solver.{v, 𝟎, 𝟏, ◌⊕◌, ◌⊗◌, ⊖◌, ◌⊝◌, solve, solve₁}
+use Rattle.algebra.proofs.Solver.{v, 𝟎, 𝟏, ◌⊕◌, ◌⊗◌, solve, solve₁}
 use Rattle.roots.specs.Slopes.{slope, reals, epsilons}
 use Rattle.roots.specs.Tangents.{tangent}
 use Rattle.roots.specs.Codes.{element}

@@ -1,5 +1,5 @@
 -- The lift, from the verdict on its level.
-use Rattle.std.proofs.Common.{◌≡◌, ℕ, ◌^◌, ◌<◌, ◌≢◌, ◌⊎◌, List, sym, refl, ap, ◌∙◌, inl, inr, ⊎_elim, arith}
+use Rattle.std.proofs.Common.{◌≡◌, ℕ, ◌≢◌, List, refl, ⊎_elim}
 use Rattle.algebra.specs.Rings.{Lawful}
 use Rattle.algebra.specs.Fields.{IsField}
 use Rattle.algebra.specs.Graeffe.{tower}

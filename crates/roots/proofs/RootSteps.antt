@@ -1,18 +1,16 @@
 -- Roots of a polynomial and of its Graeffe transform, over a field in which two is not zero.
-use Rattle.std.proofs.Common.{◌≡◌, ℕ, ◌-◌, ◌≢◌, ◌⊎◌, List, [], ◌∷◌, map, length, sym, refl, ap, ◌∙◌, subst, ap₂, inl, inr, ⊎_elim}
-use lib.ListN.{length-map}
+use Rattle.std.proofs.Common.{◌≡◌, ◌-◌, ◌≢◌, ◌⊎◌, List, [], ◌∷◌, map, length, sym, refl, ap, ◌∙◌, subst, ap₂, inl, ⊎_elim}
 use Rattle.algebra.specs.Rings.{Ops, Lawful}
 use Rattle.algebra.specs.Fields.{Invertible}
 use Rattle.algebra.specs.Duals.{dual}
-use Rattle.algebra.specs.Polynomials.{eval, sign}
+use Rattle.algebra.specs.Polynomials.{eval}
 use Rattle.algebra.specs.Graeffe.{transform}
 use Rattle.algebra.specs.DualsLemmas.{dual_lawful}
-use Rattle.algebra.specs.RingsLemmas.{times-nought, nought-times}
-use Rattle.algebra.proofs.Fields.{decide, no_divisors, times_nonzero, times_cancel, square_roots}
+use Rattle.algebra.proofs.Fields.{no_divisors, times_nonzero, square_roots}
 use Rattle.algebra.proofs.GraeffeLaws.{sign_square}
 use Rattle.algebra.proofs.Solver.{v, 𝟎, 𝟏, ◌⊕◌, ◌⊗◌, ⊖◌, ◌⊝◌, solve, solve₁, solve₂, solve₃}
 use Rattle.roots.proofs.Homs.{Hom, map-transform, map-sign}
-use Rattle.roots.specs.Slopes.{slope, reals, epsilons}
+use Rattle.roots.specs.Slopes.{slope, epsilons}
 use Rattle.roots.proofs.Slopes.{eval-dual, real_hom, embed_hom}
 use Rattle.roots.proofs.Extensions.{even_odd, eval_square}
 use Rattle.roots.proofs.GraeffeSteps.{turn, reals_embed, transform_square, transform-value, slope_step}

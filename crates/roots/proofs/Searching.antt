@@ -1,16 +1,15 @@
 -- The search, visit after visit of the top level.
-use Rattle.std.proofs.Common.{◌≡◌, ℕ, zero, suc, ◌+◌, ◌-◌, ◌*◌, ◌^◌, ◌<◌, ◌≤◌, ◌≢◌, ◌⊎◌, ◌↔◌, List, [], ◌∷◌, ◌++◌, length, sym, refl, ap, ◌∙◌, subst, inl, inr, ⊎_elim, add-mul, one-mul, arith, length-append}
+use Rattle.std.proofs.Common.{◌≡◌, ℕ, ◌+◌, ◌-◌, ◌*◌, ◌^◌, ◌<◌, ◌≢◌, ◌⊎◌, ◌↔◌, List, [], ◌∷◌, ◌++◌, length, sym, refl, subst, inl, inr, ⊎_elim, add-mul, one-mul, arith, length-append}
 use Rattle.std.proofs.lemmas.Bool.{cases_eq}
 use Rattle.algebra.specs.Rings.{Lawful}
 use Rattle.algebra.specs.Fields.{IsField}
 use Rattle.algebra.specs.Polynomials.{coefficient}
 use Rattle.algebra.specs.declared.ring.Ring.{Ghosts as RingOf}
 use Rattle.algebra.specs.declared.field.Field.{Ghosts as FieldOf}
-use Rattle.roots.specs.Lists.{In, Distinct}
-use Rattle.roots.specs.Codes.{element}
-use Rattle.roots.specs.Roots.{Root, Repeated, Trials, Ascending}
+use Rattle.roots.specs.Lists.{In}
+use Rattle.roots.specs.Roots.{Root, Trials}
 use Rattle.roots.specs.Reaching.{Reach, Below}
-use Rattle.roots.specs.Searches.{Ready, Visited, Started, Searched}
+use Rattle.roots.specs.Searches.{Ready, Visited, Searched}
 use Rattle.roots.proofs.ListLaws.{in_append, append_in, distinct_append}
 use Rattle.roots.proofs.SearchLaws.{reach_nonzero}
 use Rattle.roots.proofs.SearchStarts.{top_exponent, top_reach, top_below, reach_apart, below_apart}

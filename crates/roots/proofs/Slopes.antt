@@ -1,9 +1,9 @@
 -- Polynomials of dual numbers at a dual number.
-use Rattle.std.proofs.Common.{◌≡◌, List, [], ◌∷◌, map, sym, refl, ap, ◌∙◌, ap₂}
+use Rattle.std.proofs.Common.{◌≡◌, List, [], ◌∷◌, refl, ap, ◌∙◌}
 use Rattle.algebra.specs.Rings.{Ops, Lawful}
 use Rattle.algebra.specs.Duals.{dual}
 use Rattle.algebra.specs.Polynomials.{eval}
-use Rattle.algebra.proofs.Solver.{v, 𝟎, 𝟏, ◌⊕◌, ◌⊗◌, ⊖◌, solve}
+use Rattle.algebra.proofs.Solver.{v, 𝟎, ◌⊕◌, ◌⊗◌, ⊖◌, solve}
 use Rattle.roots.specs.Slopes.{slope, reals, epsilons}
 use Rattle.roots.proofs.Homs.{Hom}
 

@@ -1,5 +1,5 @@
 -- The coefficients of the tangent, and its two parts.
-use Rattle.std.proofs.Common.{◌≡◌, ℕ, zero, suc, ◌+◌, ◌-◌, ◌<◌, ◌≤◌, List, [], ◌∷◌, ◌++◌, map, length, get_or, sym, refl, ap, ◌∙◌, ap₂, add-zero, add-suc, arith, length-append}
+use Rattle.std.proofs.Common.{◌≡◌, ℕ, zero, suc, ◌+◌, ◌<◌, List, [], ◌∷◌, ◌++◌, length, get_or, sym, refl, ap, ◌∙◌, add-zero, arith, length-append}
 use Rattle.algebra.specs.Rings.{Ops, Lawful, number}
 use Rattle.algebra.specs.Polynomials.{eval, coefficient}
 use Rattle.algebra.specs.RingsLemmas.{times-nought, nought-plus}

@@ -1,16 +1,16 @@
 -- The tower of transforms: roots on the way up, and the one root that a simple root of a level comes from.
-use Rattle.std.proofs.Common.{◌≡◌, ℕ, zero, suc, ◌+◌, ◌-◌, ◌*◌, ◌^◌, ◌≢◌, ◌⊎◌, List, [], ◌∷◌, map, length, sym, refl, ap, ◌∙◌, subst, ap₂, inl, inr, ⊎_elim, add-zero, add-suc, mul_comm, pow-suc, zero-add, arith}
+use Rattle.std.proofs.Common.{◌≡◌, ℕ, zero, suc, ◌+◌, ◌-◌, ◌^◌, ◌≢◌, List, [], ◌∷◌, length, sym, refl, ap, ◌∙◌, ap₂, inl, add-zero, add-suc, pow-suc, arith}
 use lib.ListN.{length-map}
 use Rattle.algebra.specs.Rings.{Ops, Lawful, power, number}
 use Rattle.algebra.specs.Fields.{Invertible}
 use Rattle.algebra.specs.Duals.{dual}
 use Rattle.algebra.specs.Polynomials.{eval, sign}
 use Rattle.algebra.specs.Graeffe.{transform, tower}
-use Rattle.algebra.specs.RingsLemmas.{times-nought, nought-times, power-add, number-add}
-use Rattle.algebra.proofs.Fields.{decide, no_divisors, times_nonzero, times_cancel, square_roots, power_nonzero}
+use Rattle.algebra.specs.RingsLemmas.{times-nought, power-add, number-add}
+use Rattle.algebra.proofs.Fields.{times_nonzero, power_nonzero}
 use Rattle.algebra.proofs.GraeffeLaws.{sign_square}
-use Rattle.algebra.proofs.Solver.{v, 𝟎, 𝟏, ◌⊕◌, ◌⊗◌, ⊖◌, ◌⊝◌, solve, solve₁, solve₂, solve₃}
-use Rattle.roots.proofs.Homs.{Hom, map-tower}
+use Rattle.algebra.proofs.Solver.{v, 𝟎, 𝟏, ◌⊕◌, ◌⊗◌, ⊖◌, solve, solve₁, solve₂}
+use Rattle.roots.proofs.Homs.{map-tower}
 use Rattle.roots.specs.Slopes.{slope, reals, epsilons}
 use Rattle.roots.proofs.Slopes.{real_hom}
 use Rattle.roots.proofs.GraeffeSteps.{turn, tangent_step, slope_step}

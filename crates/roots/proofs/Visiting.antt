@@ -1,5 +1,5 @@
 -- What a visit finds, from its verdict and the visits below it.
-use Rattle.std.proofs.Common.{◌≡◌, ℕ, zero, suc, ◌+◌, ◌-◌, ◌*◌, ◌/◌, ◌^◌, ◌<◌, ◌≤◌, ◌≢◌, ◌⊎◌, ◌↔◌, List, [], ◌∷◌, ◌++◌, length, take, drop, sym, refl, ap, ◌∙◌, subst, inl, inr, ⊎_elim, pow-suc, mul-add, add-one, arith, length-append, pow_pos}
+use Rattle.std.proofs.Common.{◌≡◌, ℕ, zero, suc, ◌+◌, ◌-◌, ◌*◌, ◌/◌, ◌^◌, ◌<◌, ◌≤◌, ◌≢◌, ◌↔◌, List, [], ◌∷◌, ◌++◌, length, take, drop, sym, refl, ap, ◌∙◌, subst, inl, inr, ⊎_elim, mul-add, add-one, arith, length-append, pow_pos}
 use lib.ListN.{length-map}
 use Rattle.std.proofs.lemmas.List.{drop-drop, length-take-le}
 use Rattle.algebra.specs.Rings.{Lawful, power, raised}
@@ -9,10 +9,10 @@ use Rattle.algebra.specs.Graeffe.{tower}
 use Rattle.algebra.specs.declared.ring.Ring.{Ghosts as RingOf}
 use Rattle.algebra.specs.declared.field.Field.{Ghosts as FieldOf}
 use Rattle.roots.specs.Slopes.{slope}
-use Rattle.roots.specs.Lists.{In, Distinct, put}
+use Rattle.roots.specs.Lists.{In, put}
 use Rattle.roots.specs.Codes.{element}
 use Rattle.algebra.proofs.Raised.{raised-power}
-use Rattle.roots.specs.Roots.{Root, Ascending, codes}
+use Rattle.roots.specs.Roots.{Root, codes}
 use Rattle.roots.specs.declared.record.RootRecord.{RootRecord}
 use Rattle.roots.specs.Verdicts.{Alone}
 use Rattle.roots.specs.Reaching.{zeta_power, Reach, Below}

@@ -1,7 +1,6 @@
 -- Polynomials given by the codes of their coefficients.
-use Rattle.std.specs.Prelude.{◌≡◌, ℕ, suc, ◌+◌, ◌-◌, ◌*◌, ◌<◌, cond, List, [], ◌∷◌, map, length, ◌==◌, nat_le, nat_lt, slice_index}
-use Rattle.algebra.specs.Polynomials.{eval}
-use Rattle.algebra.specs.Refusals.{accepted, or_else, short}
+use Rattle.std.specs.Prelude.{ℕ, suc, ◌-◌, cond, List, [], ◌∷◌, map, length, ◌==◌, nat_le, nat_lt, slice_index}
+use Rattle.algebra.specs.Refusals.{accepted, or_else}
 use Rattle.algebra.specs.Transforms.{counted}
 use Rattle.algebra.specs.declared.code.Code.{Code}
 use Rattle.algebra.specs.declared.dual.Dual.{Dual}

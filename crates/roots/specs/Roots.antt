@@ -9,7 +9,7 @@ use Rattle.algebra.specs.declared.ring.Ring.{Ghosts as RingOf}
 use Rattle.algebra.specs.declared.field.Field.{Ghosts as FieldOf}
 use Rattle.roots.specs.Lists.{In, Distinct, added}
 use Rattle.roots.specs.Division.{linear_power, Divides, Multiplicity}
-use Rattle.roots.specs.Codes.{element, polynomial, coded}
+use Rattle.roots.specs.Codes.{element, coded}
 use Rattle.roots.specs.declared.record.RootRecord.{RootRecord}
 
 module _ {S : Type 0} (R : RingOf S) (F : FieldOf S) (f : List R.ring.V) where

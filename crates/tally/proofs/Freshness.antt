@@ -1,5 +1,5 @@
 -- A row of equal elements.
-use Rattle.std.proofs.Common.{◌≡◌, ℕ, zero, suc, List, map, get_or, replicate, refl}
+use Rattle.std.proofs.Common.{◌≡◌, ℕ, zero, suc, map, get_or, replicate, refl}
 
 pub row_of : {S V : Type 0} (value : S → V) (z : V) (x : S) (n k : ℕ) → value x ≡ z → get_or (map value (replicate n x)) k z ≡ z
 row_of value z x zero k e = refl

@@ -1,5 +1,5 @@
 -- What net counts tell of a tally.
-use Rattle.std.proofs.Common.{◌≡◌, ℕ, ◌∙◌}
+use Rattle.std.proofs.Common.{ℕ, ◌∙◌}
 use Rattle.algebra.specs.Rings.{Ops, Lawful}
 use Rattle.tally.specs.Contents.{Contents}
 use Rattle.tally.specs.Logs.{Log, Kept}

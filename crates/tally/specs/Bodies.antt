@@ -1,8 +1,8 @@
 -- What the body of a tally means.
-use Rattle.std.specs.Prelude.{◌≡◌, ℕ, ◌<◌, List, map, slice_index_or}
+use Rattle.std.specs.Prelude.{◌≡◌, ℕ, map, slice_index_or}
 use Rattle.algebra.specs.declared.ring.Ring.{Ghosts as RingOf}
 use Rattle.algebra.specs.declared.field.Field.{Ghosts as FieldOf}
-use Rattle.tally.specs.Contents.{Contents, count}
+use Rattle.tally.specs.Contents.{Contents}
 use Rattle.tally.specs.declared.frame.Frame.{Frame}
 use Rattle.tally.specs.declared.sums.Sums.{Sums}
 

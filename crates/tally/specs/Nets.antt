@@ -3,7 +3,7 @@ use Rattle.std.specs.Prelude.{◌≡◌, ℕ, suc, ◌<◌, true, List, [], ◌�
 use Rattle.algebra.specs.Rings.{Ops, power, number}
 use Rattle.roots.specs.Lists.{In, Distinct}
 use Rattle.tally.specs.Contents.{Contents, count, limit}
-use Rattle.tally.specs.Logs.{Line, Log, took, net, Kept}
+use Rattle.tally.specs.Logs.{Line, Log, took, net}
 
 -- pairs of an element and its weight: the sum of the weights times the powers k of the elements
 abbrev pub weighted_sum : (o : Ops) → List (o.V × o.V) → ℕ → o.V

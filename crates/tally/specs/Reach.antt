@@ -1,5 +1,5 @@
 -- The codes in which two logs differ, and how far comparing reaches.
-use Rattle.std.specs.Prelude.{◌≡◌, ℕ, ◌+◌, ◌*◌, ◌<◌, ◌≤◌, Bool, true, ◌≢◌, ◌↔◌, List, [], ◌∷◌, length}
+use Rattle.std.specs.Prelude.{◌≡◌, ℕ, ◌<◌, ◌≤◌, Bool, true, ◌≢◌, ◌↔◌, List, [], length}
 use Rattle.algebra.specs.Rings.{Ops}
 use Rattle.roots.specs.Lists.{In}
 use Rattle.roots.specs.Roots.{Ascending}

@@ -1,5 +1,4 @@
-use Rattle.std.proofs.Common.{◌≡◌, ℕ, ◌%◌, ◌<◌, sym, refl, ap, ◌∙◌, mod-lt, arith}
-use Rattle.algebra.specs.Rings.{number}
+use Rattle.std.proofs.Common.{◌≡◌, ◌%◌, ◌<◌, sym, ap, ◌∙◌, mod-lt, arith}
 use Rattle.algebra.proofs.Fields.{number_mod}
 use Rattle.algebra.proofs.field.whole.Goals as goal
 

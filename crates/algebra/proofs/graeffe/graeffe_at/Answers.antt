@@ -1,7 +1,6 @@
-use Rattle.std.proofs.Common.{◌≡◌, ℕ, ◌+◌, ◌-◌, length, sym, ap, ◌∙◌, arith}
+use Rattle.std.proofs.Common.{◌≡◌, ◌-◌, length, sym, ◌∙◌, arith}
 use lib.ListN.{length-map}
 use Rattle.std.proofs.lemmas.List.{get_or_past}
-use Rattle.algebra.specs.Polynomials.{coefficient, sign, product, alternate}
 use Rattle.algebra.specs.Graeffe.{transform}
 use Rattle.algebra.specs.Transforms.{values}
 use Rattle.algebra.proofs.GraeffeLaws.{coefficient-transform, length-transform, place_even, place_odd}

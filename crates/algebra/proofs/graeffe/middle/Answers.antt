@@ -1,4 +1,4 @@
-use Rattle.std.proofs.Common.{◌≡◌, ℕ, suc, ◌+◌, ◌-◌, ◌<◌, ◌≤◌, map, length, sym, refl, ap, ◌∙◌, add-one, arith}
+use Rattle.std.proofs.Common.{◌≡◌, ℕ, ◌+◌, ◌-◌, ◌<◌, ◌≤◌, map, length, refl, ap, ◌∙◌, add-one, arith}
 use lib.ListN.{length-map}
 use Rattle.algebra.specs.Polynomials.{coefficient, sign}
 use Rattle.algebra.proofs.Sums.{total}

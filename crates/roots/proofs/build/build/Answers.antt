@@ -1,4 +1,4 @@
-use Rattle.std.proofs.Common.{◌≡◌, ℕ, suc, ◌+◌, ◌*◌, ◌<◌, ◌≤◌, length, take, drop, sym, refl, ap, ◌∙◌, ap₂, inl, ⊎_elim, eq-or-lt_of_le, zero-mul, add-one, arith}
+use Rattle.std.proofs.Common.{◌≡◌, ◌+◌, ◌*◌, ◌<◌, length, take, drop, sym, ap, ◌∙◌, inl, ⊎_elim, eq-or-lt_of_le, zero-mul, add-one, arith}
 use Rattle.algebra.specs.Duals.{dual}
 use Rattle.algebra.specs.Graeffe.{transform, tower}
 use Rattle.roots.specs.Codes.{polynomial, duals}

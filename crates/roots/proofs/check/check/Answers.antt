@@ -1,5 +1,5 @@
-use Rattle.std.proofs.Common.{◌≡◌, ◌<◌, ◌≤◌, length, sym, ap, ◌∙◌, arith}
-use Rattle.roots.specs.Codes.{past, top}
+use Rattle.std.proofs.Common.{◌≡◌, sym, ap, ◌∙◌, arith}
+use Rattle.roots.specs.Codes.{past}
 use Rattle.roots.proofs.Checking.{top_read, coded-top, coded_good}
 use Rattle.roots.proofs.check.check.Goals as goal
 

@@ -1,4 +1,3 @@
-use Rattle.std.proofs.Common.{arith}
 use Rattle.roots.proofs.Checking.{past_more, past_here, past_all}
 use Rattle.roots.proofs.check.first_past.Goals as goal
 

@@ -1,4 +1,4 @@
-use Rattle.std.proofs.Common.{◌≡◌, ℕ, ◌+◌, ◌<◌, ◌≤◌, ◌≢◌, ◌⊎◌, length, get_or, take, drop, sym, refl, ap, ◌∙◌, inl, inr, ⊎_elim, arith, get_or-set_other, rules}
+use Rattle.std.proofs.Common.{◌≡◌, ◌+◌, ◌≢◌, take, drop, ap, ◌∙◌, inl, inr, ⊎_elim, arith, get_or-set_other}
 use Rattle.algebra.specs.Duals.{dual}
 use Rattle.algebra.specs.Polynomials.{coefficient}
 use Rattle.algebra.specs.Graeffe.{transform}

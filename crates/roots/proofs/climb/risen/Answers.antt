@@ -1,4 +1,4 @@
-use Rattle.std.proofs.Common.{◌≡◌, ℕ, ◌+◌, ◌-◌, take, drop, refl, ap, ◌∙◌, arith}
+use Rattle.std.proofs.Common.{◌≡◌, ◌+◌, ◌-◌, take, drop, ap, ◌∙◌, arith}
 use Rattle.algebra.specs.Duals.{dual}
 use Rattle.algebra.specs.Polynomials.{coefficient}
 use Rattle.algebra.specs.Graeffe.{transform}

@@ -1,6 +1,6 @@
-use Rattle.std.proofs.Common.{◌≡◌, ℕ, suc, ◌+◌, ◌-◌, ◌<◌, ◌≤◌, map, length, get_or, take, drop, sym, refl, ap, ◌∙◌, add-one, arith, below_more}
+use Rattle.std.proofs.Common.{◌≡◌, suc, ◌+◌, ◌-◌, map, length, take, sym, ap, ◌∙◌, add-one, arith, below_more}
 use lib.ListN.{length-map}
-use Rattle.algebra.specs.Polynomials.{eval, coefficient}
+use Rattle.algebra.specs.Polynomials.{eval}
 use Rattle.roots.specs.Division.{quotient}
 use Rattle.roots.specs.Slopes.{reals}
 use Rattle.roots.specs.Codes.{element, polynomial}

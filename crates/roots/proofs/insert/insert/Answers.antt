@@ -1,4 +1,4 @@
-use Rattle.std.proofs.Common.{◌≡◌, ◌+◌, ◌++◌, take, drop, sym, refl, ap, ◌∙◌, ap₂, arith, drop-set-lt}
+use Rattle.std.proofs.Common.{◌≡◌, ◌+◌, ◌++◌, take, drop, sym, ap, ◌∙◌, ap₂, arith, drop-set-lt}
 use Rattle.roots.specs.Lists.{put}
 use Rattle.roots.specs.Roots.{codes}
 use Rattle.roots.proofs.Inserting.{same_after, keep_step, swap_step, last_step}

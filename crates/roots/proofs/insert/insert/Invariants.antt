@@ -1,4 +1,4 @@
-use Rattle.std.proofs.Common.{◌≡◌, ℕ, ◌<◌, ◌≤◌, ◌++◌, get_or, take, drop}
+use Rattle.std.proofs.Common.{◌≡◌, ◌++◌, take, drop}
 use Rattle.roots.specs.Lists.{put}
 use Rattle.roots.specs.Roots.{codes}
 use Rattle.roots.proofs.insert.insert.Given as goal

@@ -1,7 +1,6 @@
-use Rattle.std.proofs.Common.{◌≡◌, ◌≢◌, sym, refl, ap, ◌∙◌, subst, arith, rules}
+use Rattle.std.proofs.Common.{◌≢◌, sym, ◌∙◌, subst, arith, rules}
 use Rattle.roots.specs.Codes.{element, polynomial}
 use Rattle.roots.specs.Roots.{Lift, Simple}
-use Rattle.roots.specs.Verdicts.{Judged}
 use Rattle.roots.proofs.SearchLaws.{element_nonzero}
 use Rattle.roots.proofs.Lifting.{lift_from, no_lift}
 use Rattle.roots.proofs.lift.lift.Goals as goal

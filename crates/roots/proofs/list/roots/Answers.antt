@@ -1,9 +1,8 @@
-use Rattle.std.proofs.Common.{◌≡◌, ℕ, suc, ◌+◌, ◌-◌, ◌<◌, ◌≤◌, eqb, List, length, get_or, take, drop, sym, refl, ap, ◌∙◌, subst, ap₂, arith, rules}
+use Rattle.std.proofs.Common.{◌≡◌, suc, ◌-◌, eqb, length, take, sym, ap, ◌∙◌, subst, ap₂, arith, rules}
 use lib.ListN.{length-map}
-use Rattle.algebra.specs.Polynomials.{coefficient}
 use Rattle.roots.specs.Lists.{In}
 use Rattle.roots.specs.Codes.{element, polynomial}
-use Rattle.roots.specs.Roots.{codes, Ascending, Root}
+use Rattle.roots.specs.Roots.{codes, Ascending}
 use Rattle.roots.proofs.Coding.{good_from, top_nonzero}
 use Rattle.roots.proofs.SearchStarts.{roots_fit}
 use Rattle.roots.proofs.Visiting.{length-codes}

@@ -1,10 +1,9 @@
-use Rattle.std.proofs.Common.{◌≡◌, ℕ, ◌+◌, ◌-◌, ◌*◌, ◌/◌, ◌^◌, ◌<◌, ◌≤◌, List, [], ◌∷◌, length, take, drop, sym, refl, ap, ◌∙◌, subst, ap₂, arith, rules}
+use Rattle.std.proofs.Common.{◌≡◌, ◌+◌, ◌-◌, ◌*◌, ◌/◌, ◌^◌, ◌<◌, [], ◌∷◌, length, take, drop, sym, refl, ap, ◌∙◌, ap₂, arith}
 use lib.ListN.{length-map}
 use mir.Facts.{Fits-of_lt}
 use Rattle.algebra.specs.Polynomials.{coefficient}
 use Rattle.roots.specs.Codes.{element, polynomial}
 use Rattle.roots.specs.Roots.{codes}
-use Rattle.roots.specs.Searches.{Ready, Visited, Searched}
 use Rattle.roots.proofs.Coding.{good_from, top_nonzero, zero_root, no_zero_root, zero_fits, step_is, step_below, trials_fit}
 use Rattle.roots.proofs.Visiting.{drop_on}
 use Rattle.roots.proofs.Searching.{searched_none, searched_zero, searched_ready, searched_more, searched_all, ready_moved, visited_moved, searched_moved}

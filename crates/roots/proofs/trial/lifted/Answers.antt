@@ -1,4 +1,4 @@
-use Rattle.std.proofs.Common.{◌≡◌, sym, refl, ap, ◌∙◌, ap₂}
+use Rattle.std.proofs.Common.{ap, ◌∙◌, ap₂}
 use Rattle.algebra.specs.Rings.{raised}
 use Rattle.roots.proofs.Judging.{two_power, lift_product}
 use Rattle.roots.proofs.trial.lifted.Goals as goal

@@ -1,16 +1,15 @@
-use Rattle.std.proofs.Common.{◌≡◌, ℕ, suc, ◌+◌, ◌-◌, ◌*◌, ◌/◌, ◌^◌, ◌<◌, ◌≤◌, ◌≢◌, length, take, drop, sym, refl, ap, ◌∙◌, subst, arith, rules}
+use Rattle.std.proofs.Common.{◌+◌, ◌-◌, ◌*◌, ◌/◌, ◌≤◌, length, take, sym, refl, ap, ◌∙◌, subst, arith, rules}
 use lib.ListN.{length-map}
 use Rattle.algebra.specs.Polynomials.{eval}
 use Rattle.algebra.specs.Graeffe.{tower}
 use Rattle.algebra.proofs.Fields.{zeta_power_nonzero}
-use Rattle.roots.specs.Lists.{put}
 use Rattle.roots.specs.Codes.{element, polynomial}
 use Rattle.roots.specs.Roots.{codes}
 use Rattle.roots.specs.Reaching.{zeta_power}
 use Rattle.roots.specs.Verdicts.{Alone, Judged}
 use Rattle.roots.specs.Searches.{Ready, Visited}
 use Rattle.roots.specs.declared.verdict.Verdict.TheVariants.{Both}
-use Rattle.roots.proofs.Visiting.{Vanishes, put_fits, visited_nothing, visited_root, both_first, both_second, both_visited, tried_power, few_first, few_second, drop_on, length-codes}
+use Rattle.roots.proofs.Visiting.{put_fits, visited_nothing, visited_root, both_first, both_second, both_visited, tried_power, few_first, few_second, drop_on, length-codes}
 use Rattle.roots.proofs.visit.+visit.Goals as goal
 
 pub overflow_mul-k : goal.overflow_mul-k

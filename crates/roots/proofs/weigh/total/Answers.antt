@@ -1,4 +1,4 @@
-use Rattle.std.proofs.Common.{◌≡◌, sym, ap, ◌∙◌, arith, rules}
+use Rattle.std.proofs.Common.{arith, rules}
 use Rattle.roots.specs.declared.record.RootRecord.{RootRecord}
 use Rattle.roots.proofs.Weighing.{added_more}
 use Rattle.roots.proofs.weigh.total.Goals as goal

@@ -1,4 +1,4 @@
-use Rattle.std.proofs.Common.{◌≡◌, ℕ, length, get_or, sym, refl, ap, ◌∙◌, subst, arith, drop-set-lt}
+use Rattle.std.proofs.Common.{ℕ, refl, ◌∙◌, subst, arith, drop-set-lt}
 use Rattle.algebra.proofs.Places.{place_more}
 use Rattle.roots.specs.Division.{Multiplicity}
 use Rattle.roots.specs.Codes.{element, polynomial}

@@ -1,4 +1,4 @@
-use Rattle.std.proofs.Common.{◌≡◌, ℕ, ◌+◌, ◌*◌, ◌<◌, ◌≤◌, length, get_or, sym, refl, ap, ◌∙◌, ap₂, arith, rules}
+use Rattle.std.proofs.Common.{ℕ, ◌<◌, length, sym, refl, ap, ◌∙◌, ap₂, arith, rules}
 use Rattle.algebra.specs.Rings.{power}
 use Rattle.std.proofs.lemmas.List.{get_or_default}
 use Rattle.algebra.proofs.Places.{read_value}

@@ -1,4 +1,4 @@
-use Rattle.std.proofs.Common.{ℕ, ◌+◌, List, [], ◌∷◌, ◌++◌, map, get_or, vec_items, sym, ap, ◌∙◌}
+use Rattle.std.proofs.Common.{ℕ, List, [], ◌∷◌, ◌++◌, map, get_or, vec_items, sym, ap, ◌∙◌}
 use Rattle.std.proofs.lemmas.List.{take_all, take_more, map_push}
 use Rattle.text.proofs.read.codes.Goals as goal
 

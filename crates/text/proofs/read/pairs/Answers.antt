@@ -1,4 +1,4 @@
-use Rattle.std.proofs.Common.{ℕ, ◌+◌, List, [], ◌∷◌, ◌++◌, vec_items, sym, subst}
+use Rattle.std.proofs.Common.{ℕ, List, [], ◌∷◌, ◌++◌, vec_items, sym, subst}
 use Rattle.algebra.specs.declared.dual.Dual.{Dual}
 use Rattle.text.specs.Numbers.{pair_of}
 use Rattle.text.specs.Elements.{Named, both_mean, BothHeld, both_named}

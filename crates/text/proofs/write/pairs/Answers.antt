@@ -1,4 +1,4 @@
-use Rattle.std.proofs.Common.{◌≡◌, ℕ, ◌+◌, ◌<◌, List, ◌++◌, string_bytes, ap, ◌∙◌, subst}
+use Rattle.std.proofs.Common.{◌≡◌, ℕ, ◌<◌, List, ◌++◌, string_bytes, ap, ◌∙◌, subst}
 use Rattle.algebra.specs.declared.dual.Dual.{Dual}
 use Rattle.std.proofs.lemmas.List.{take_all}
 use Rattle.text.specs.Elements.{Shown, both_mean, both_named}

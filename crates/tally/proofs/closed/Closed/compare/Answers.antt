@@ -1,8 +1,7 @@
-use Rattle.std.proofs.Common.{◌≡◌, ℕ, ◌+◌, ◌*◌, ◌<◌, Bool, true, false, ◌↔◌, map, length, get_or, sym, refl, ap, ◌∙◌, arith, rules, below_more}
+use Rattle.std.proofs.Common.{◌≡◌, ◌<◌, true, false, ◌↔◌, map, length, get_or, sym, refl, ◌∙◌, arith, rules, below_more}
 use Rattle.std.proofs.lemmas.List.{get_or-map}
 use Rattle.std.proofs.lemmas.Bool.{both_ways, false≢true}
-use Rattle.std.proofs.lemmas.Bool.Decides.{nat_tests}
-use Rattle.tally.specs.Contents.{Agree, count}
+use Rattle.tally.specs.Contents.{Agree}
 use Rattle.tally.specs.Bodies.{contents, element}
 use Rattle.tally.proofs.Comparing.{reaches}
 use Rattle.tally.proofs.closed.Closed.compare.Goals as goal

@@ -1,5 +1,5 @@
 use Rattle.std.proofs.Common.{refl}
-use Rattle.tally.specs.Bodies.{contents, element}
+use Rattle.tally.specs.Bodies.{element}
 use Rattle.tally.proofs.Netting.{netted}
 use Rattle.tally.proofs.open.Open.close.Goals as goal
 

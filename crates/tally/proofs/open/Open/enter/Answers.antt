@@ -1,4 +1,4 @@
-use Rattle.std.proofs.Common.{◌≡◌, false, [], ◌∷◌, sym, refl, ap, ◌∙◌, ap₂}
+use Rattle.std.proofs.Common.{refl, ap, ◌∙◌, ap₂}
 use Rattle.algebra.specs.Rings.{power}
 use Rattle.algebra.specs.Refusals.{answer}
 use Rattle.tally.specs.Contents.{enter, Moved}

@@ -1,4 +1,4 @@
-use Rattle.std.proofs.Common.{◌≡◌, sym, refl, ap, ◌∙◌}
+use Rattle.std.proofs.Common.{refl}
 use Rattle.tally.proofs.Freshness.{row_of}
 use Rattle.tally.proofs.open.Open.open.Goals as goal
 

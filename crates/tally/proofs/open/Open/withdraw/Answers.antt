@@ -1,4 +1,4 @@
-use Rattle.std.proofs.Common.{◌≡◌, [], ◌∷◌, sym, refl, ap, ◌∙◌, ap₂}
+use Rattle.std.proofs.Common.{refl, ap, ◌∙◌, ap₂}
 use Rattle.algebra.specs.Rings.{power, number}
 use Rattle.algebra.specs.Refusals.{answer}
 use Rattle.algebra.specs.RingsLemmas.{minus-times}
