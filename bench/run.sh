@@ -3,15 +3,15 @@
 # of crates/rootbench, and FLINT at the same polynomial, with the same roots, where Debian's package libflint-dev is installed.
 set -eu
 cd "$(dirname "$0")/.."
-rt check bench rootbench >/dev/null
+for program in bench rootbench; do (cd crates/$program && rt run >/dev/null 2>&1); done
 mkdir -p target/plain
 rustc -O -o target/plain/plain bench/plain.rs
 echo 'Rattle:'
-target/bin/bench
+crates/bench/out/bench
 echo 'plain Rust:'
 target/plain/plain
 echo 'Rattle, roots:'
-target/bin/rootbench
+crates/rootbench/out/rootbench
 if [ -e /usr/include/flint/nmod_poly_factor.h ]; then
     cc -O3 -o target/plain/flint bench/flint.c -lflint -lgmp
     echo 'FLINT, roots:'

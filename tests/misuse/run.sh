@@ -8,7 +8,7 @@
 #   new: TEXT         the misuse in its place (more pairs of old: and new: may follow)
 #   error: NAME       the compiler's name for its refusal, as it stands in error[NAME]
 # Other lines are comments. Each edit is made in a copy of the repository and undone after the check; the check has to
-# fail with that error. The copy keeps its target/, so that only the first check of a crate waits for its dependencies.
+# fail with that error.
 #
 # Prints 'misuse: N refused by types', or what went wrong, and then exits 1.
 set -u
@@ -16,10 +16,7 @@ here=$(cd "$(dirname "$0")" && pwd)
 root=$(cd "$here/../.." && pwd)
 copy=$(mktemp -d) || exit 2
 trap 'rm -rf "$copy"' EXIT
-cp -R "$root/crates.txt" "$root/crates" "$copy/" || exit 2
-for kept in rlib stamp; do # crates that are proved already
-    [ ! -d "$root/target/$kept" ] || { mkdir -p "$copy/target" && cp -R "$root/target/$kept" "$copy/target/"; }
-done
+tar -C "$root" --exclude=out -cf - crates.txt crates | tar -C "$copy" -xf - || exit 2
 
 # Replaces the text $2, which has to stand exactly once in the file $1, by $3.
 replace() {
@@ -55,7 +52,7 @@ for edit in "$here"/*.edit; do
     if ! apply "$edit" >"$copy/why"; then
         echo "misuse $name: bad edit: $(cat "$copy/why")"
         failed=$((failed + 1))
-    elif (cd "$copy" && rt dev "$crate") >"$copy/log" 2>&1; then
+    elif (cd "$copy/crates/$crate" && rt check) >"$copy/log" 2>&1; then
         echo "misuse $name: NOT REFUSED"
         failed=$((failed + 1))
     elif grep -qF "error[$error]" "$copy/log"; then
@@ -67,7 +64,7 @@ for edit in "$here"/*.edit; do
         failed=$((failed + 1))
     fi
     if [ -d "$root/crates/$crate" ] && [ -n "$crate" ]; then
-        rm -rf "${copy:?}/crates/$crate" && cp -R "$root/crates/$crate" "$copy/crates/" || exit 2
+        rm -rf "${copy:?}/crates/$crate/src" && cp -R "$root/crates/$crate/src" "$copy/crates/$crate/" || exit 2
     fi
 done
 [ "$failed" -eq 0 ] || { echo "misuse: $failed failed, $refused refused by types"; exit 1; }
