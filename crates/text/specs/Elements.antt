@@ -1,6 +1,6 @@
 -- Elements of a ring and what names them. `value` is what an element means, and `of` what a name stands for.
 use Rattle.std.specs.Prelude.{◌≡◌, ℕ, List, map}
-use Rattle.std.specs.List.{flat_map, AllByRecursion as All}
+use Rattle.std.specs.List.{flat_map, AllByRecursion}
 use Rattle.algebra.specs.declared.dual.Dual.{Dual}
 
 -- of both parts of a dual number: what they mean, that they are canonical, and what two names stand for
@@ -16,11 +16,11 @@ both_named of p = (of p.0, of p.1)
 -- the elements are those that the names stand for, in order, each in canonical form
 pub record Named {N S V : Type 0} (value : S → V) (canonical : S → Type 0) (of : N → V) (names : List N) (xs : List S) : Type 0 where
   pub means : map value xs ≡ map of names
-  pub held : All canonical xs
+  pub held : AllByRecursion canonical xs
 
 -- the text shows a name of each element, in order; `right` tells the one name of an element from any other
 pub record Shown {N S V : Type 0} (value : S → V) (of : N → V) (right : N → Type 0) (show : N → List ℕ) (xs : List S) (text : List ℕ) : Type 0 where
   pub names : List N
   pub means : map of names ≡ map value xs
-  pub chosen : All right names
+  pub chosen : AllByRecursion right names
   pub shows : text ≡ flat_map show names
