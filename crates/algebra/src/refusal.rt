@@ -2,6 +2,9 @@ ghost use Rattle.std.specs.Prelude.{◌≡◌};
 ghost use Rattle.std.specs.Option.{option_to_list};
 ghost use Rattle.algebra.specs.Refusals.{answer};
 
+use std::error::Error;
+use std::fmt;
+
 // Why a call was refused. Each has its number and values by `answer` in specs/Refusals.antt.
 #[derive(Clone, Copy, PartialEq, Eq, Debug)]
 pub enum Refusal {
@@ -49,3 +52,25 @@ impl Refusal {
         }
     }
 }
+
+impl fmt::Display for Refusal {
+    fn fmt<W: fmt::Write>(&self, f: &mut fmt::Formatter<W>) -> fmt::Result {
+        match self {
+            Refusal::Frame => f.write_str("a width is 1 to 32 and a spare 0 to 32"),
+            Refusal::Code(code) => write!(f, "{code} is no part code"),
+            Refusal::Quantity => f.write_str("nothing is moved"),
+            Refusal::Full(turnover) => write!(f, "the tally is full at a turnover of {turnover}"),
+            Refusal::Unlike => f.write_str("the frames differ"),
+            Refusal::Short(needed) => write!(f, "too little room, where {needed} are needed"),
+            Refusal::Length(n) => write!(f, "{n} coefficients, where 1 to 257 are taken"),
+            Refusal::Coefficient(place) => {
+                write!(f, "the coefficient at {place} is no code of this field")
+            }
+            Refusal::Top => f.write_str("the top coefficient is zero"),
+            Refusal::Level(level) => write!(f, "{level} is no level of the tower"),
+            Refusal::Job(place) => write!(f, "the job name is wrong at {place}"),
+        }
+    }
+}
+
+impl Error for Refusal {}
