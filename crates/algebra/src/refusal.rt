@@ -54,6 +54,11 @@ impl Refusal {
 }
 
 impl fmt::Display for Refusal {
+    ghost use Rattle.std.specs.Prelude.{Some};
+    ghost use Rattle.algebra.specs.Refusals.{words};
+
+    ghost output = { λ x. Some (words x) };
+
     fn fmt<W: fmt::Write>(&self, f: &mut fmt::Formatter<W>) -> fmt::Result {
         match self {
             Refusal::Frame => f.write_str("a width is 1 to 32 and a spare 0 to 32"),
