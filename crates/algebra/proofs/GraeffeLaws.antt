@@ -149,11 +149,12 @@ module _ (o : Ops) (L : Lawful o) where
         ∙ ap (o.times (sign o j)) (times-nought o L (coefficient o f j)) ∙ times-nought o L (sign o j)) in
         L.plus-minus o.nought ∙ sym (ap (λ t. o.minus (o.times (sign o i) t)) none ∙ ap o.minus (times-nought o L (sign o i)) ∙ minus-nought o L)
 
-    pub middle_end : (k : ℕ) (half x r : o.V)
+    pub middle_end : (k : ℕ) (half r : o.V)
         → half ≡ o.minus (o.times (sign o k) (total o (signed o f (k + k)) k))
-        → x ≡ coefficient o f k → r ≡ o.plus (o.times x x) (o.minus (o.plus half half))
+        → r ≡ o.plus (o.times (coefficient o f k) (coefficient o f k)) (o.minus (o.plus half half))
         → r ≡ o.times (sign o k) (coefficient o (product o f (alternate o f)) (k + k))
-    middle_end k half x r eh ex er =
+    middle_end k half r eh er =
+        let x = coefficient o f k in
         let s = sign o k in
         let S = total o (signed o f (k + k)) k in
         let t = pair o f (k + k) k in
