@@ -1,9 +1,9 @@
 -- The rules of the tables of the field of 17 elements, each by one computed test, and the laws that follow.
-use Rattle.std.specs.Prelude.{◌≡◌, ℕ, zero, suc, ◌+◌, ◌-◌, ◌*◌, ◌%◌, ◌<◌, ◌≤◌, Bool, true, false, cond, not, ltb, ◌≢◌, ◌==◌, nat_eq, nat_lt, slice_index, Option, Some, None, IfSome, MatchOption, refl}
-use Rattle.std.specs.Option.{option_map, option_zip, option_eq}
-use Rattle.std.proofs.Common.{eqb, sym, ap, subst, ◌∙◌, inl, inr, mod-lt, mod-eq_of_lt, arith, lit<}
+use Rattle.std.specs.Prelude.{◌≡◌, ℕ, zero, suc, ◌+◌, ◌-◌, ◌*◌, ◌%◌, ◌<◌, ◌≤◌, true, cond, ltb, ◌≢◌, ◌==◌, nat_eq, nat_lt, slice_index, Option, Some, None, refl}
+use Rattle.std.specs.Option.{option_map, option_zip}
+use Rattle.std.proofs.Common.{sym, ap, ap₂, subst, ◌∙◌, inl, inr, mod-lt, mod-eq_of_lt, arith, lit<}
 use Rattle.std.proofs.Math.Nat.{mod-mod, add-mod}
-use Rattle.std.proofs.lemmas.Bool.{not-true, cases_lt, eqb-true, ltb-true, lt-ltb, le-ltb, ne_eqb, cond-true, cond-false, cond_both}
+use Rattle.std.proofs.lemmas.Bool.{cases_lt, eqb-true, ltb-true, lt-ltb, le-ltb, ne_eqb, cond-true, cond-false, cond_both}
 use Rattle.algebra.specs.Rings.{Lawful, power}
 use Rattle.algebra.specs.RingsLemmas.{nought-times, times-nought, minus-nought}
 use Rattle.algebra.specs.declared.code.Exponent.{Exponent}
@@ -106,15 +106,19 @@ unique x y hx hy e =
 laws : Lawful modulo_17
 laws = lawful 17 positive
 
+-- the code of what a code below 17 means
+code_element : (c : ℕ) → c < 17 → (meaning (element c)).code ≡ c
+code_element c h = meaning_code (element c) ∙ element_code c h
+
+pub code_means : (c : ℕ) (x : Seventeen) → c < 17 → meaning (element c) ≡ meaning x → c ≡ coding x % 17
+code_means c x h e = sym (code_element c h) ∙ ap (λ (r : Residue 17). r.code) e
+
 -- the sum, by codes below 17
 pub sum-means : (a b : ℕ) → a < 17 → b < 17 → meaning (element ((a + b) % 17)) ≡ modulo_17.plus (meaning (element a)) (meaning (element b))
 sum-means a b ha hb =
     rest_same 17 positive _ _ (
-      ap (λ (n : ℕ). n % 17) (element_code ((a + b) % 17) (mod-lt (a + b) positive)) ∙ mod-mod (a + b) 17
-      ∙ sym (ap (λ (n : ℕ). (n + (meaning (element b)).code) % 17) (told a ha) ∙ ap (λ (n : ℕ). (a + n) % 17) (told b hb)))
-  where
-    told : (c : ℕ) → c < 17 → (meaning (element c)).code ≡ c
-    told c h = meaning_code (element c) ∙ element_code c h
+    ap (λ (n : ℕ). n % 17) (element_code ((a + b) % 17) (mod-lt (a + b) positive)) ∙ mod-mod (a + b) 17
+    ∙ sym (ap₂ (λ m n. (m + n) % 17) (code_element a ha) (code_element b hb)))
 
 -- the product, the negative and the inverse, by power numbers
 
@@ -140,25 +144,6 @@ inverse_means (Some a) = record {
   of_nought = λ z. absurd (code_nonzero a (ap (λ (r : Residue 17). r.code) z));
   of_other = λ z. rest_same 17 positive _ 1 (upside (a.0 % 16) (under a.0));
 }
-
-abbrev agrees : Bool → Bool → Bool
-agrees true t = t
-agrees false t = not t
-
-agree : (s t : Bool) → agrees s t ≡ true → s ≡ t
-agree true t e = sym e
-agree false t e = sym (not-true t e)
-
--- rests of power numbers are equal exactly where the powers are
-alike_powers : (i j : ℕ) → i < 16 → j < 16 → (i == j) ≡ (at i % 17 == at j % 17)
-alike_powers i j hi hj = agree _ _ (pairs_below (λ a b. agrees (a == b) (at a % 17 == at b % 17)) 16 16 refl i j hi hj)
-
--- equal rests of power numbers are of equal powers
-pub same_means : (p q : Option Exponent) → option_eq eqb (option_map (λ a. a.0 % 16) p) (option_map (λ a. a.0 % 16) q) ≡ modulo_17.alike (meaning (held p)) (meaning (held q))
-same_means None None = refl
-same_means None (Some b) = sym (ne_eqb 0 (at (b.0 % 16) % 17) (λ z. code_nonzero b (sym z)))
-same_means (Some a) None = sym (ne_eqb (at (a.0 % 16) % 17) 0 (code_nonzero a))
-same_means (Some a) (Some b) = alike_powers (a.0 % 16) (b.0 % 16) (under a.0) (under b.0)
 
 -- the codes
 

@@ -87,6 +87,10 @@ module _ (q : ℕ) (pos : 0 < q) where
   pub told_code : (c : ℕ) → c < q → (told c).code ≡ c
   told_code c h = ap (λ (x : Residue q). x.code) (told_below c h) ∙ mod-eq_of_lt h
 
+  -- a code that means n is the rest of n
+  pub code_told : (c n : ℕ) → c < q → told c ≡ rest q pos n → c ≡ n % q
+  code_told c n h e = sym (told_code c h) ∙ ap (λ (x : Residue q). x.code) e
+
   -- each code below q has one element, and each element one code
   pub coded : 1 < q → Coded (residues q pos) q told
   coded big = record {

@@ -80,7 +80,7 @@ impl Ring for Seventeen {
     }
 
     fn same(self, other: Seventeen) -> bool {
-        self.power.map(|a| a.0 % ROUND) == other.power.map(|b| b.0 % ROUND)
+        self.to_code() == other.to_code()
     }
 }
 

@@ -1,4 +1,4 @@
-use Rattle.std.proofs.Common.{◌<◌, ◌≤◌, sym}
+use Rattle.std.proofs.Common.{◌<◌, ◌≤◌, sym, ◌∙◌}
 use Rattle.fields.specs.Shop.{shop_order, shop_pos}
 use Rattle.fields.specs.ResiduesLemmas.{told_below, told-past}
 use Rattle.fields.specs.ShopLemmas.{shop_is, shop-coded}
@@ -12,4 +12,4 @@ returns-then-code-lt-ORDER c =
 pub returns-else-code-lt-ORDER : goal.returns-else-code-lt-ORDER
 returns-else-code-lt-ORDER c =
     let past : shop_order ≤ c.args.code.0 = rw shop_is c.if-code-lt-ORDER.false in
-    record { means = sym (told-past shop_order shop_pos c.args.code.0 past); held = shop_pos; coded = shop-coded }
+    record { means = c.zero.ensures.means ∙ sym (told-past shop_order shop_pos c.args.code.0 past); held = c.zero.ensures.held; coded = shop-coded }

@@ -1,5 +1,5 @@
-use Rattle.std.proofs.Common.{◌≡◌, ap, ◌∙◌, arith, rules}
-use Rattle.fields.specs.Seventeen.{coding, meaning, element}
+use Rattle.std.proofs.Common.{◌≡◌, arith, rules}
+use Rattle.fields.specs.Seventeen.{coding}
 use Rattle.fields.specs.Field17.{of_code, code_under}
 use Rattle.fields.proofs.seventeen.SeventeenField.to_code.Goals as goal
 

@@ -1,5 +1,5 @@
 use Rattle.fields.specs.ShopLemmas.{shop_is}
-use Rattle.fields.proofs.residue.reduced.Goals as goal
+use Rattle.fields.proofs.residue.ResidueFromU64.from.Goals as goal
 
 pub returns : goal.returns
 returns c = rw shop_is
