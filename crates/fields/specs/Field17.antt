@@ -51,8 +51,8 @@ code_high i h = ltb-true (at i) 17 (all-below (λ k. ltb (at k) 17) 16 refl i h)
 number_at : (i : ℕ) → i < 16 → number_of (at i) ≡ i
 number_at = equal-below (λ i. number_of (at i)) (λ i. i) 16 refl
 
-pub number-high : (c : ℕ) → c < 17 → number_of c < 16
-number-high c h = ltb-true (number_of c) 16 (all-below (λ k. ltb (number_of k) 16) 17 refl c h)
+pub number_high : (c : ℕ) → c < 17 → number_of c < 16
+number_high c h = ltb-true (number_of c) 16 (all-below (λ k. ltb (number_of k) 16) 17 refl c h)
 
 at-number : (c : ℕ) → c < 17 → c ≢ 0 → at (number_of c) ≡ c
 at-number c h z =
@@ -70,7 +70,7 @@ element-past c h =
 pub element_least : (c : ℕ) → Least (element c)
 element_least c =
     cond_both (c == 0) no_power (cond (nat_lt c 17) (power_of (number_of c)) no_power) Least (λ e. tt)
-    (λ e. cond_both (nat_lt c 17) (power_of (number_of c)) no_power Least (λ lt. number-high c (ltb-true c 17 lt)) (λ e. tt))
+    (λ e. cond_both (nat_lt c 17) (power_of (number_of c)) no_power Least (λ lt. number_high c (ltb-true c 17 lt)) (λ e. tt))
 
 under : (e : ℕ) → e % 16 < 16
 under e = mod-lt e (lit< tt)
@@ -173,8 +173,8 @@ is_primitive = record {
   once = λ d e hd he z. sym (number_at d hd) ∙ ap number_of (sym (powers_right d hd) ∙ ap (λ (r : Residue 17). r.code) z ∙ powers_right e he) ∙ number_at e he;
   every = λ r z. (
     number_of r.code,
-    number-high r.code (code_below r),
+    number_high r.code (code_below r),
     residue_same (power modulo_17 (meaning three) (number_of r.code)) r
-        (powers_right (number_of r.code) (number-high r.code (code_below r)) ∙ at-number r.code (code_below r) (λ e. z (residue_same r modulo_17.nought e))),
+        (powers_right (number_of r.code) (number_high r.code (code_below r)) ∙ at-number r.code (code_below r) (λ e. z (residue_same r modulo_17.nought e))),
   );
 }

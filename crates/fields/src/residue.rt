@@ -1,3 +1,5 @@
+#![tactic(auto, using(crate::specs::ShopLemmas::shop_is, crate::specs::ShopLemmas::shop_bounded, crate::specs::ShopLemmas::shop_coded, crate::specs::ShopLemmas::shop_primitive))]
+
 ghost use Rattle.std.specs.Prelude.{◌≡◌, ◌%◌, ◌<◌, if◌then◌else◌, nat_lt};
 ghost use Rattle.fields.specs.Residues.{rest};
 ghost use Rattle.fields.specs.Shop.{shop_order, shop_pos, shop};

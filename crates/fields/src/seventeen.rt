@@ -1,3 +1,5 @@
+#![tactic(auto, using(crate::specs::Field17::is_coded, crate::specs::Field17::is_primitive))]
+
 ghost use Rattle.std.specs.Prelude.{◌≡◌};
 ghost use Rattle.fields.specs.Seventeen.{modulo_17, positive, added, meaning, Least, element, three};
 ghost use Rattle.fields.specs.ResiduesLemmas as Residues;

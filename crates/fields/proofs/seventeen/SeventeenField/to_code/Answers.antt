@@ -6,5 +6,4 @@ use Rattle.fields.proofs.seventeen.SeventeenField.to_code.Goals as goal
 pub returns : goal.returns
 returns c =
     let is : c.map_or.result ≡ coding c.args.self = search rules in
-    let below = code_under c.args.self in
-    record { means = rw is (of_code c.args.self); below = omega arith }
+    record { means = rw is (of_code c.args.self); below = omega (arith, code_under c.args.self) }
