@@ -10,13 +10,6 @@ use Rattle.algebra.proofs.Places.{place_more, front_value}
 use Rattle.algebra.proofs.GraeffeLaws.{transform_law, length-transform}
 use Rattle.algebra.proofs.graeffe.graeffe.Goals as goal
 
-pub loop-k-preserved : goal.loop-k-preserved
-loop-k-preserved g c =
-    let R = g.R.Ring in
-    let P : ℕ → _ → Type 0 = λ j x. (R.value x ≡ coefficient R.ring (transform R.ring (values R c.args.f.now)) j) × R.canonical x in
-    let at = c.graeffe_at.ensures in
-    place_more P c.loop-k.place-items c.loop-k.k c.graeffe_at.result (omega arith) (at.means, at.held) c.loop-k.invariant
-
 pub returns-clause-leaves : goal.returns-clause-leaves
 returns-clause-leaves g c =
     let R = g.R.Ring in
