@@ -166,22 +166,6 @@ module _ (o : Ops) (L : Lawful o) where
         left ∙ sym (ap (o.times s) (even_place k)
         ∙ cc (L.times-plus s S (o.plus (o.times s t) S), L.times-plus s (o.times s t) S, L.times_assoc s s t, sign_square k, unit-times o L t))
 
-    -- the coefficient of the transform, from what the loop gives, by the parity of d - k
-    pub place_even : (d k : ℕ) (r : o.V) → k ≤ d → (d - k) % 2 ≡ 0
-        → r ≡ o.times (sign o k) (coefficient o (product o f (alternate o f)) (k + k))
-        → r ≡ o.times (sign o d) (coefficient o (product o f (alternate o f)) (k + k))
-    place_even d k r h e er =
-        let twice : d + k ≡ (k + (d - k) / 2) + (k + (d - k) / 2) = omega arith in
-        er ∙ ap (λ t. o.times t (coefficient o (product o f (alternate o f)) (k + k))) (sym (sign_even d k (k + (d - k) / 2) twice))
-
-    pub place_odd : (d k : ℕ) (r s : o.V) → k ≤ d → 0 < (d - k) % 2
-        → r ≡ o.times (sign o k) (coefficient o (product o f (alternate o f)) (k + k)) → s ≡ o.minus r
-        → s ≡ o.times (sign o d) (coefficient o (product o f (alternate o f)) (k + k))
-    place_odd d k r s h e er es =
-        let C = coefficient o (product o f (alternate o f)) (k + k) in
-        let twice : d + k ≡ suc ((k + (d - k) / 2) + (k + (d - k) / 2)) = omega arith in
-        cc (sign_odd d k (k + (d - k) / 2) twice, minus-times o L (sign o k) C)
-
   coefficient-evens : (f : List o.V) (k : ℕ) → coefficient o (evens f) k ≡ coefficient o f (k + k)
   coefficient-evens [] k = refl
   coefficient-evens (a ∷ []) zero = refl
@@ -194,6 +178,22 @@ module _ (o : Ops) (L : Lawful o) where
   coefficient-transform f k =
       coefficient-evens (scale o (sign o (length f - 1)) (product o f (alternate o f))) k
       ∙ coefficient-scale o L (sign o (length f - 1)) (product o f (alternate o f)) (k + k)
+
+  -- the coefficient of the transform, from that of the product by the sign of k, as d - k is even or odd
+  pub transform_even : (f : List o.V) (k : ℕ) (r : o.V) → k < length f → (length f - 1 - k) % 2 ≡ 0
+      → r ≡ o.times (sign o k) (coefficient o (product o f (alternate o f)) (k + k)) → r ≡ coefficient o (transform o f) k
+  transform_even f k r h e er =
+      let d = length f - 1 in
+      let twice : d + k ≡ (k + (d - k) / 2) + (k + (d - k) / 2) = omega arith in
+      er ∙ ap (λ t. o.times t (coefficient o (product o f (alternate o f)) (k + k))) (sym (sign_even d k (k + (d - k) / 2) twice)) ∙ sym (coefficient-transform f k)
+
+  pub transform_odd : (f : List o.V) (k : ℕ) (r s : o.V) → k < length f → 0 < (length f - 1 - k) % 2
+      → r ≡ o.times (sign o k) (coefficient o (product o f (alternate o f)) (k + k)) → s ≡ o.minus r → s ≡ coefficient o (transform o f) k
+  transform_odd f k r s h e er es =
+      let d = length f - 1 in
+      let C = coefficient o (product o f (alternate o f)) (k + k) in
+      let twice : d + k ≡ suc ((k + (d - k) / 2) + (k + (d - k) / 2)) = omega arith in
+      cc (sign_odd d k (k + (d - k) / 2) twice, minus-times o L (sign o k) C, coefficient-transform f k)
 
   long_product : (a : o.V) (f : List o.V) → length (product o (a ∷ f) (alternate o (a ∷ f))) ≡ suc (length f + length f)
   long_product a f =

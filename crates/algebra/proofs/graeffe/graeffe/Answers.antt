@@ -6,7 +6,7 @@ use Rattle.std.proofs.lemmas.List.{ext_get_or, get_or_append_left}
 use Rattle.algebra.specs.Polynomials.{coefficient}
 use Rattle.algebra.specs.Graeffe.{Graeffe, transform}
 use Rattle.algebra.specs.Transforms.{values}
-use Rattle.algebra.proofs.Places.{place_more, front_value}
+use Rattle.algebra.proofs.Places.{front_value}
 use Rattle.algebra.proofs.GraeffeLaws.{transform_law, length-transform}
 use Rattle.algebra.proofs.graeffe.graeffe.Goals as goal
 

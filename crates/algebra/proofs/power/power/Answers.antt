@@ -1,6 +1,6 @@
 use Rattle.std.proofs.Common.{◌≡◌, ◌/◌, sym, ap, ◌∙◌, subst, ap₂, arith}
 use Rattle.algebra.specs.Rings.{raised}
-use Rattle.algebra.proofs.Raised.{raised_start, raised_end, raised_even, raised_odd}
+use Rattle.algebra.proofs.Raised.{raised_end, raised_even, raised_odd}
 use Rattle.algebra.proofs.power.power.Goals as goal
 use Rattle.algebra.proofs.power.power.Goals.{then-left-eq1, else-left-eq1}
 
