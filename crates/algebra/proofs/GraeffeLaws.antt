@@ -149,11 +149,12 @@ module _ (o : Ops) (L : Lawful o) where
         ∙ ap (o.times (sign o j)) (times-nought o L (coefficient o f j)) ∙ times-nought o L (sign o j)) in
         L.plus-minus o.nought ∙ sym (ap (λ t. o.minus (o.times (sign o i) t)) none ∙ ap o.minus (times-nought o L (sign o i)) ∙ minus-nought o L)
 
-    pub middle_end : (k : ℕ) (half x r : o.V)
+    pub middle_end : (k : ℕ) (half r : o.V)
         → half ≡ o.minus (o.times (sign o k) (total o (signed o f (k + k)) k))
-        → x ≡ coefficient o f k → r ≡ o.plus (o.times x x) (o.minus (o.plus half half))
+        → r ≡ o.plus (o.times (coefficient o f k) (coefficient o f k)) (o.minus (o.plus half half))
         → r ≡ o.times (sign o k) (coefficient o (product o f (alternate o f)) (k + k))
-    middle_end k half x r eh ex er =
+    middle_end k half r eh er =
+        let x = coefficient o f k in
         let s = sign o k in
         let S = total o (signed o f (k + k)) k in
         let t = pair o f (k + k) k in
@@ -164,22 +165,6 @@ module _ (o : Ops) (L : Lawful o) where
         let left : r ≡ o.plus T (o.plus t T) = cc (L.plus_comm t (o.plus T T), L.plus_assoc T T t, L.plus_comm T t) in
         left ∙ sym (ap (o.times s) (even_place k)
         ∙ cc (L.times-plus s S (o.plus (o.times s t) S), L.times-plus s (o.times s t) S, L.times_assoc s s t, sign_square k, unit-times o L t))
-
-    -- the coefficient of the transform, from what the loop gives, by the parity of d - k
-    pub place_even : (d k : ℕ) (r : o.V) → k ≤ d → (d - k) % 2 ≡ 0
-        → r ≡ o.times (sign o k) (coefficient o (product o f (alternate o f)) (k + k))
-        → r ≡ o.times (sign o d) (coefficient o (product o f (alternate o f)) (k + k))
-    place_even d k r h e er =
-        let twice : d + k ≡ (k + (d - k) / 2) + (k + (d - k) / 2) = omega arith in
-        er ∙ ap (λ t. o.times t (coefficient o (product o f (alternate o f)) (k + k))) (sym (sign_even d k (k + (d - k) / 2) twice))
-
-    pub place_odd : (d k : ℕ) (r s : o.V) → k ≤ d → 0 < (d - k) % 2
-        → r ≡ o.times (sign o k) (coefficient o (product o f (alternate o f)) (k + k)) → s ≡ o.minus r
-        → s ≡ o.times (sign o d) (coefficient o (product o f (alternate o f)) (k + k))
-    place_odd d k r s h e er es =
-        let C = coefficient o (product o f (alternate o f)) (k + k) in
-        let twice : d + k ≡ suc ((k + (d - k) / 2) + (k + (d - k) / 2)) = omega arith in
-        cc (sign_odd d k (k + (d - k) / 2) twice, minus-times o L (sign o k) C)
 
   coefficient-evens : (f : List o.V) (k : ℕ) → coefficient o (evens f) k ≡ coefficient o f (k + k)
   coefficient-evens [] k = refl
@@ -193,6 +178,22 @@ module _ (o : Ops) (L : Lawful o) where
   coefficient-transform f k =
       coefficient-evens (scale o (sign o (length f - 1)) (product o f (alternate o f))) k
       ∙ coefficient-scale o L (sign o (length f - 1)) (product o f (alternate o f)) (k + k)
+
+  -- the coefficient of the transform, from that of the product by the sign of k, as d - k is even or odd
+  pub transform_even : (f : List o.V) (k : ℕ) (r : o.V) → k < length f → (length f - 1 - k) % 2 ≡ 0
+      → r ≡ o.times (sign o k) (coefficient o (product o f (alternate o f)) (k + k)) → r ≡ coefficient o (transform o f) k
+  transform_even f k r h e er =
+      let d = length f - 1 in
+      let twice : d + k ≡ (k + (d - k) / 2) + (k + (d - k) / 2) = omega arith in
+      er ∙ ap (λ t. o.times t (coefficient o (product o f (alternate o f)) (k + k))) (sym (sign_even d k (k + (d - k) / 2) twice)) ∙ sym (coefficient-transform f k)
+
+  pub transform_odd : (f : List o.V) (k : ℕ) (r s : o.V) → k < length f → 0 < (length f - 1 - k) % 2
+      → r ≡ o.times (sign o k) (coefficient o (product o f (alternate o f)) (k + k)) → s ≡ o.minus r → s ≡ coefficient o (transform o f) k
+  transform_odd f k r s h e er es =
+      let d = length f - 1 in
+      let C = coefficient o (product o f (alternate o f)) (k + k) in
+      let twice : d + k ≡ suc ((k + (d - k) / 2) + (k + (d - k) / 2)) = omega arith in
+      cc (sign_odd d k (k + (d - k) / 2) twice, minus-times o L (sign o k) C, coefficient-transform f k)
 
   long_product : (a : o.V) (f : List o.V) → length (product o (a ∷ f) (alternate o (a ∷ f))) ≡ suc (length f + length f)
   long_product a f =

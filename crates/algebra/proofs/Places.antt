@@ -1,6 +1,8 @@
 -- What is read out of and written into a slice, place by place.
-use Rattle.std.proofs.Common.{◌≡◌, ℕ, ◌+◌, ◌<◌, ◌≤◌, ◌≢◌, List, [], ◌∷◌, map, length, get_or, take, set, sym, ap, ◌∙◌, arith, length-take, get_or-set_other, get_or-set_same, below_more}
+use Rattle.std.proofs.Common.{◌≡◌, ℕ, suc, ◌+◌, ◌-◌, ◌<◌, ◌≤◌, ◌≢◌, List, [], ◌∷◌, map, length, get_or, take, set, refl, sym, ap, ◌∙◌, arith, length-take, get_or-set_other, get_or-set_same, below_more}
 use Rattle.std.proofs.lemmas.List.{get_or-map, get_or-take}
+use Rattle.std.proofs.lemmas.Grind.{common_steps}
+use Rattle.std.specs.List.{push, slice_range}
 
 -- an element that was read, as a value
 pub read_value : {S V : Type 0} (value : S → V) (f : List S) (i : ℕ) (x : S) (d : V) → i < length f → x ≡ get_or f i x → value x ≡ get_or (map value f) i d
@@ -20,3 +22,54 @@ pub front_value : {S V : Type 0} (value : S → V) (out : List S) (n k : ℕ) (v
 front_value value [] n k v e h long at = let none : ⊥ = omega arith in absurd none
 front_value value (x ∷ xs) n k v e h long at =
     get_or-map value (take n (x ∷ xs)) k x e (omega (arith, length-take n (x ∷ xs))) ∙ ap value (get_or-take n (x ∷ xs) k x h) ∙ at x
+
+-- the m places on each side of k, the nearest last and first
+pub record Around {X : Type 0} (xs before after : List X) (k m : ℕ) : Type 0 where
+  pub room : m ≤ k
+  pub inside : k + m < length xs
+  pub length-before : length before ≡ m
+  pub length-after : length after ≡ m
+  pub places-before : (j : ℕ) (d : X) → j < m → get_or before j d ≡ get_or xs (k - m + j) d
+  pub places-after : (j : ℕ) (d : X) → j < m → get_or after j d ≡ get_or xs (k + 1 + j) d
+
+pub around_start : {X : Type 0} (xs before after : List X) (k m : ℕ) → m ≤ k → k + m < length xs
+    → before ≡ slice_range xs (k - m) k → after ≡ slice_range xs (k + 1) (k + 1 + m) → Around xs before after k (length before)
+around_start xs before after k m h l p q =
+    let n : length before ≡ m = grind (arith, common_steps, ap length p) in record {
+      room = omega arith;
+      inside = omega arith;
+      length-before = refl;
+      length-after = grind (arith, common_steps, ap length q);
+      places-before = λ j d i. grind (arith, common_steps);
+      places-after = λ j d i. grind (arith, common_steps);
+    }
+
+-- the furthest two, from the places i and 2 k - i, are taken
+pub record Taken {X : Type 0} (xs before after : List X) (x y : X) (k i : ℕ) : Type 0 where
+  pub left : Around xs before after k (length before)
+  pub next : k - length before ≡ suc i
+  pub first : x ≡ get_or xs i x
+  pub last : y ≡ get_or xs (k + k - i) y
+
+pub around_step : {X : Type 0} (xs us vs before after : List X) (x y : X) (k : ℕ) → Around xs us vs k (length us) → us ≡ x ∷ before → vs ≡ push after y
+    → Taken xs before after x y k (k - length us)
+around_step xs us vs before after x y k s p q =
+    let r = s.room in
+    let n = s.inside in
+    let a : length us ≡ suc (length before) = ap length p in
+    let b : length after ≡ length before = grind (arith, common_steps, ap length q, s.length-after) in
+    let f = s.places-before 0 x (omega arith) in
+    let l = s.places-after (length before) y (omega arith) in
+    record {
+      left = record {
+        room = omega arith;
+        inside = omega arith;
+        length-before = refl;
+        length-after = b;
+        places-before = λ j d i. (let t = s.places-before (suc j) d (omega arith) in grind (arith, common_steps));
+        places-after = λ j d i. (let t = s.places-after j d (omega arith) in grind (arith, common_steps));
+      };
+      next = omega arith;
+      first = grind (arith, common_steps);
+      last = grind (arith, common_steps);
+    }

@@ -1,5 +1,5 @@
 -- The number of each refusal and the values that it carries.
-use Rattle.std.specs.Prelude.{ℕ, cond, List, [], ◌∷◌, Ok, Err, Result, ◌==◌, nat_lt}
+use Rattle.std.specs.Prelude.{ℕ, cond, List, [], ◌∷◌, ◌++◌, Ok, Err, Result, ◌==◌, nat_lt, codes, decimal}
 use Rattle.algebra.specs.declared.refusal.Refusal.{Refusal}
 use Rattle.algebra.specs.declared.refusal.Refusal.TheVariants.{Frame, Code, Quantity, Full, Unlike, Short, Length, Coefficient, Top, Level, Job}
 
@@ -15,6 +15,20 @@ answer (Coefficient i) = (9, i ∷ [])
 answer Top = (10, [])
 answer (Level k) = (11, k ∷ [])
 answer (Job i) = (15, i ∷ [])
+
+-- the words that tell it to people
+abbrev pub words : Refusal → List ℕ
+words Frame = codes "a width is 1 to 32 and a spare 0 to 32"
+words (Code c) = decimal c ++ codes " is no part code"
+words Quantity = codes "nothing is moved"
+words (Full t) = codes "the tally is full at a turnover of " ++ decimal t
+words Unlike = codes "the frames differ"
+words (Short n) = codes "too little room, where " ++ (decimal n ++ codes " are needed")
+words (Length n) = decimal n ++ codes " coefficients, where 1 to 257 are taken"
+words (Coefficient i) = codes "the coefficient at " ++ (decimal i ++ codes " is no code of this field")
+words Top = codes "the top coefficient is zero"
+words (Level k) = decimal k ++ codes " is no level of the tower"
+words (Job i) = codes "the job name is wrong at " ++ decimal i
 
 -- what an accepted call tells
 abbrev pub accepted : ℕ × List ℕ

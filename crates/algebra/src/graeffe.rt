@@ -17,12 +17,14 @@ fn middle<R: Ring>(f: &[R], k: usize) -> R
     ensures means { R.Ring.value result ≡ R.Ring.ring.times (sign R.Ring.ring k) (coefficient R.Ring.ring (product R.Ring.ring (values R.Ring f.now) (alternate R.Ring.ring (values R.Ring f.now))) (k + k)) }
     ensures held { R.Ring.canonical result }
 {
-    let above = f.len() - 1 - k;
-    let low = if k < above { 0 } else { k - above };
+    // the number of places on each side of k
+    let reach = k.min(f.len() - 1 - k);
+    let below = &f[k - reach..k];
+    let above = &f[k + 1..k + 1 + reach];
     let mut odd = R::zero();
     let mut even = R::zero();
-    for i in low..k {
-        let next = even.add(f[i].mul(f[k + (k - i)]));
+    for (x, y) in below.iter().zip(above.iter().rev()) {
+        let next = even.add(x.mul(*y));
         even = odd;
         odd = next;
     }
@@ -52,14 +54,14 @@ pub fn graeffe<R: Ring>(f: &[R], out: &mut [R]) -> Result<(), Refusal>
     ensures leaves { MatchResult result (λ _. Transformed R.Ring f.now out.old out.new) (λ _. out.new ≡ out.old) }
 {
     let n = f.len();
-    if n == 0 || n > MOST {
+    if f.is_empty() || n > MOST {
         return Err(Refusal::Length(n));
     }
     if out.len() < n {
         return Err(Refusal::Short(n));
     }
-    for k in 0..n {
-        out[k] = graeffe_at(f, k);
+    for (k, place) in out[..n].iter_mut().enumerate() {
+        *place = graeffe_at(f, k);
     }
     Ok(())
 }

@@ -39,21 +39,26 @@ impl Refusal {
     {
         match self {
             Refusal::Frame => (1, None),
-            Refusal::Code(code) => (2, Some(code as u64)),
+            Refusal::Code(code) => (2, Some(u64::from(code))),
             Refusal::Quantity => (3, None),
-            Refusal::Full(turnover) => (4, Some(turnover as u64)),
+            Refusal::Full(turnover) => (4, Some(u64::from(turnover))),
             Refusal::Unlike => (5, None),
             Refusal::Short(needed) => (6, Some(needed as u64)),
             Refusal::Length(length) => (8, Some(length as u64)),
             Refusal::Coefficient(place) => (9, Some(place as u64)),
             Refusal::Top => (10, None),
-            Refusal::Level(level) => (11, Some(level as u64)),
+            Refusal::Level(level) => (11, Some(u64::from(level))),
             Refusal::Job(place) => (15, Some(place as u64)),
         }
     }
 }
 
 impl fmt::Display for Refusal {
+    ghost use Rattle.std.specs.Prelude.{Some};
+    ghost use Rattle.algebra.specs.Refusals.{words};
+
+    ghost output = { λ x. Some (words x) };
+
     fn fmt<W: fmt::Write>(&self, f: &mut fmt::Formatter<W>) -> fmt::Result {
         match self {
             Refusal::Frame => f.write_str("a width is 1 to 32 and a spare 0 to 32"),

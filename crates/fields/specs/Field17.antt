@@ -1,16 +1,16 @@
 -- The rules of the tables of the field of 17 elements, each by one computed test, and the laws that follow.
-use Rattle.std.specs.Prelude.{◌≡◌, ℕ, zero, suc, ◌+◌, ◌-◌, ◌*◌, ◌%◌, ◌<◌, ◌≤◌, Bool, true, false, cond, not, ltb, ◌≢◌, ◌==◌, nat_eq, nat_lt, slice_index, refl}
-use Rattle.std.proofs.Common.{sym, ap, subst, ◌∙◌, inl, inr, mod-lt, mod-eq_of_lt, arith, lit<}
-use Rattle.std.proofs.Math.Nat.{mod-mod}
-use Rattle.std.proofs.lemmas.Bool.{not-true, cases_lt, eqb-true, ltb-true, lt-ltb, le-ltb, ne_eqb, cond-true, cond-false, cond_both}
+use Rattle.std.specs.Prelude.{◌≡◌, ℕ, zero, suc, ◌+◌, ◌-◌, ◌*◌, ◌%◌, ◌<◌, ◌≤◌, true, cond, ltb, ◌≢◌, ◌==◌, nat_eq, nat_lt, slice_index, Option, Some, None, refl}
+use Rattle.std.specs.Option.{option_map, option_zip}
+use Rattle.std.proofs.Common.{sym, ap, ap₂, subst, ◌∙◌, inl, inr, mod-lt, mod-eq_of_lt, arith, lit<}
+use Rattle.std.proofs.Math.Nat.{mod-mod, add-mod}
+use Rattle.std.proofs.lemmas.Bool.{cases_lt, eqb-true, ltb-true, lt-ltb, le-ltb, ne_eqb, cond-true, cond-false, cond_both}
 use Rattle.algebra.specs.Rings.{Lawful, power}
 use Rattle.algebra.specs.RingsLemmas.{nought-times, times-nought, minus-nought}
 use Rattle.algebra.specs.declared.code.Exponent.{Exponent}
 use Rattle.algebra.specs.Fields.{Coded, Inverse, Invertible, Primitive}
 use Rattle.fields.specs.Residues.{Residue}
 use Rattle.fields.specs.declared.seventeen.Seventeen.{Seventeen}
-use Rattle.fields.specs.declared.seventeen.Seventeen.TheVariants.{Zero, Power}
-use Rattle.fields.specs.Seventeen.{modulo_17, positive, power_codes, power_numbers, coding, meaning, Least, element, three}
+use Rattle.fields.specs.Seventeen.{modulo_17, positive, power_codes, power_numbers, no_power, power_of, added, inverted, coding, meaning, Least, element, three}
 use Rattle.fields.specs.ResiduesLemmas.{lawful, residue_same, rest_same, code_below, code_rest, told, told_below, told-past, coded}
 use Rattle.fields.specs.Tables.{all, all-below, pairs_below}
 
@@ -51,8 +51,8 @@ code_high i h = ltb-true (at i) 17 (all-below (λ k. ltb (at k) 17) 16 refl i h)
 number_at : (i : ℕ) → i < 16 → number_of (at i) ≡ i
 number_at = equal-below (λ i. number_of (at i)) (λ i. i) 16 refl
 
-number-high : (c : ℕ) → c < 17 → number_of c < 16
-number-high c h = ltb-true (number_of c) 16 (all-below (λ k. ltb (number_of k) 16) 17 refl c h)
+pub number_high : (c : ℕ) → c < 17 → number_of c < 16
+number_high c h = ltb-true (number_of c) 16 (all-below (λ k. ltb (number_of k) 16) 17 refl c h)
 
 at-number : (c : ℕ) → c < 17 → c ≢ 0 → at (number_of c) ≡ c
 at-number c h z =
@@ -62,84 +62,88 @@ at-number c h z =
 element_code : (c : ℕ) → c < 17 → coding (element c) ≡ c
 element_code = equal-below (λ c. coding (element c)) (λ c. c) 17 refl
 
-element-past : (c : ℕ) → 17 ≤ c → element c ≡ Zero
+element-past : (c : ℕ) → 17 ≤ c → element c ≡ no_power
 element-past c h =
-    cond-false (c == 0) Zero (cond (nat_lt c 17) (Power (record { 0 = number_of c })) Zero) (ne_eqb c 0 (λ e. omega arith))
-    ∙ cond-false (nat_lt c 17) (Power (record { 0 = number_of c })) Zero (le-ltb c 17 h)
+    cond-false (c == 0) no_power (cond (nat_lt c 17) (power_of (number_of c)) no_power) (ne_eqb c 0 (λ e. omega arith))
+    ∙ cond-false (nat_lt c 17) (power_of (number_of c)) no_power (le-ltb c 17 h)
 
 pub element_least : (c : ℕ) → Least (element c)
 element_least c =
-    cond_both (c == 0) Zero (cond (nat_lt c 17) (Power (record { 0 = number_of c })) Zero) Least (λ e. tt)
-    (λ e. cond_both (nat_lt c 17) (Power (record { 0 = number_of c })) Zero Least (λ lt. number-high c (ltb-true c 17 lt)) (λ e. tt))
+    cond_both (c == 0) no_power (cond (nat_lt c 17) (power_of (number_of c)) no_power) Least (λ e. tt)
+    (λ e. cond_both (nat_lt c 17) (power_of (number_of c)) no_power Least (λ lt. number_high c (ltb-true c 17 lt)) (λ e. tt))
 
 under : (e : ℕ) → e % 16 < 16
 under e = mod-lt e (lit< tt)
 
+-- the element held by this power number, or by none
+abbrev pub held : Option Exponent → Seventeen
+held p = record { power = p }
+
+held_under : (p : Option Exponent) → coding (held p) < 17
+held_under None = lit< tt
+held_under (Some e) = code_high (e.0 % 16) (under e.0)
+
 pub code_under : (x : Seventeen) → coding x < 17
-code_under Zero = lit< tt
-code_under (Power e) = code_high (e.0 % 16) (under e.0)
+code_under x = held_under x.power
 
 -- an element held as answers are is the element of its code
-again : (x : Seventeen) → Least x → element (coding x) ≡ x
-again Zero h = refl
-again (Power e) h =
+again : (p : Option Exponent) → Least (held p) → element (coding (held p)) ≡ held p
+again None h = refl
+again (Some e) h =
     let c = at (e.0 % 16) in
     let i = under e.0 in
-    cond-false (c == 0) Zero (cond (nat_lt c 17) (Power (record { 0 = number_of c })) Zero) (ne_eqb c 0 (λ z. omega (arith, code_low (e.0 % 16) i)))
-    ∙ cond-true (nat_lt c 17) (Power (record { 0 = number_of c })) Zero (lt-ltb c 17 (code_high (e.0 % 16) i))
-    ∙ ap (λ (n : ℕ). Power (record { 0 = n })) (number_at (e.0 % 16) i ∙ mod-eq_of_lt h)
+    cond-false (c == 0) no_power (cond (nat_lt c 17) (power_of (number_of c)) no_power) (ne_eqb c 0 (λ z. omega (arith, code_low (e.0 % 16) i)))
+    ∙ cond-true (nat_lt c 17) (power_of (number_of c)) no_power (lt-ltb c 17 (code_high (e.0 % 16) i))
+    ∙ ap power_of (number_at (e.0 % 16) i ∙ mod-eq_of_lt h)
 
 meaning_code : (x : Seventeen) → (meaning x).code ≡ coding x
 meaning_code x = mod-eq_of_lt (code_under x)
 
 pub unique : (x y : Seventeen) → Least x → Least y → meaning x ≡ meaning y → x ≡ y
 unique x y hx hy e =
-    sym (again x hx) ∙ ap element (sym (meaning_code x) ∙ ap (λ r. r.code) e ∙ meaning_code y) ∙ again y hy
+    sym (again x.power hx) ∙ ap element (sym (meaning_code x) ∙ ap (λ r. r.code) e ∙ meaning_code y) ∙ again y.power hy
 
 laws : Lawful modulo_17
 laws = lawful 17 positive
 
-pub sum-means : (x y : Seventeen) → meaning (element ((coding x + coding y) % 17)) ≡ modulo_17.plus (meaning x) (meaning y)
-sum-means x y =
-    rest_same 17 positive (coding (element ((coding x + coding y) % 17))) ((meaning x).code + (meaning y).code)
-    (ap (λ (n : ℕ). n % 17) (element_code ((coding x + coding y) % 17) (mod-lt (coding x + coding y) positive)) ∙ mod-mod (coding x + coding y) 17
-    ∙ sym (ap (λ (n : ℕ). (n + (meaning y).code) % 17) (meaning_code x) ∙ ap (λ (n : ℕ). (coding x + n) % 17) (meaning_code y)))
+-- the code of what a code below 17 means
+code_element : (c : ℕ) → c < 17 → (meaning (element c)).code ≡ c
+code_element c h = meaning_code (element c) ∙ element_code c h
 
-pub product-means : (x y : Seventeen) (a b : Exponent) → x ≡ Power a → y ≡ Power b
-    → meaning (Power (record { 0 = (a.0 % 16 + b.0 % 16) % 16 })) ≡ modulo_17.times (meaning x) (meaning y)
-product-means x y a b ex ey =
-    rest_same 17 positive _ _ (product (a.0 % 16) (b.0 % 16) (under a.0) (under b.0))
-    ∙ ap (λ t. modulo_17.times (meaning t) (meaning (Power b))) (sym ex) ∙ ap (λ t. modulo_17.times (meaning x) (meaning t)) (sym ey)
+pub code_means : (c : ℕ) (x : Seventeen) → c < 17 → meaning (element c) ≡ meaning x → c ≡ coding x % 17
+code_means c x h e = sym (code_element c h) ∙ ap (λ (r : Residue 17). r.code) e
 
-pub zero-product : (x y : Seventeen) → x ≡ Zero → meaning Zero ≡ modulo_17.times (meaning x) (meaning y)
-zero-product x y e = sym (nought-times modulo_17 laws (meaning y)) ∙ ap (λ t. modulo_17.times (meaning t) (meaning y)) (sym e)
+-- the sum, by codes below 17
+pub sum-means : (a b : ℕ) → a < 17 → b < 17 → meaning (element ((a + b) % 17)) ≡ modulo_17.plus (meaning (element a)) (meaning (element b))
+sum-means a b ha hb =
+    rest_same 17 positive _ _ (
+    ap (λ (n : ℕ). n % 17) (element_code ((a + b) % 17) (mod-lt (a + b) positive)) ∙ mod-mod (a + b) 17
+    ∙ sym (ap₂ (λ m n. (m + n) % 17) (code_element a ha) (code_element b hb)))
 
-pub product-zero : (x y : Seventeen) → y ≡ Zero → meaning Zero ≡ modulo_17.times (meaning x) (meaning y)
-product-zero x y e = sym (times-nought modulo_17 laws (meaning x)) ∙ ap (λ t. modulo_17.times (meaning x) (meaning t)) (sym e)
+-- the product, the negative and the inverse, by power numbers
 
-pub opposite_means : (x : Seventeen) (a : Exponent) → x ≡ Power a → meaning (Power (record { 0 = (a.0 % 16 + 8) % 16 })) ≡ modulo_17.minus (meaning x)
-opposite_means x a e = rest_same 17 positive _ _ (opposite (a.0 % 16) (under a.0)) ∙ ap (λ t. modulo_17.minus (meaning t)) (sym e)
+-- the value of the power with a number
+abbrev turn : ℕ → Residue 17
+turn n = meaning (power_of n)
 
-pub opposite_zero : (x : Seventeen) → x ≡ Zero → meaning Zero ≡ modulo_17.minus (meaning x)
-opposite_zero x e = sym (minus-nought modulo_17 laws) ∙ ap (λ t. modulo_17.minus (meaning t)) (sym e)
+pub product-means : (p q : Option Exponent) → meaning (held (option_map (λ t. added t.0 t.1) (option_zip p q))) ≡ modulo_17.times (meaning (held p)) (meaning (held q))
+product-means None q = sym (nought-times modulo_17 laws (meaning (held q)))
+product-means (Some a) None = sym (times-nought modulo_17 laws (meaning (held (Some a))))
+product-means (Some a) (Some b) = ap turn (add-mod a.0 b.0 16) ∙ rest_same 17 positive _ _ (product (a.0 % 16) (b.0 % 16) (under a.0) (under b.0))
 
-abbrev agrees : Bool → Bool → Bool
-agrees true t = t
-agrees false t = not t
+pub opposite_means : (p : Option Exponent) → meaning (held (option_map (λ a. added a (record { 0 = 8 })) p)) ≡ modulo_17.minus (meaning (held p))
+opposite_means None = sym (minus-nought modulo_17 laws)
+opposite_means (Some a) = ap turn (add-mod a.0 8 16) ∙ rest_same 17 positive _ _ (opposite (a.0 % 16) (under a.0))
 
-agree : (s t : Bool) → agrees s t ≡ true → s ≡ t
-agree true t e = sym e
-agree false t e = sym (not-true t e)
+code_nonzero : (a : Exponent) → at (a.0 % 16) % 17 ≢ 0
+code_nonzero a e = let l = code_low (a.0 % 16) (under a.0) in let h = code_high (a.0 % 16) (under a.0) in omega arith
 
--- rests of power numbers are equal exactly where the powers are
-alike_powers : (i j : ℕ) → i < 16 → j < 16 → (i == j) ≡ (at i % 17 == at j % 17)
-alike_powers i j hi hj = agree _ _ (pairs_below (λ a b. agrees (a == b) (at a % 17 == at b % 17)) 16 16 refl i j hi hj)
-
-pub same_powers : (x y : Seventeen) (a b : Exponent) → x ≡ Power a → y ≡ Power b
-    → (a.0 % 16 == b.0 % 16) ≡ modulo_17.alike (meaning x) (meaning y)
-same_powers x y a b ex ey =
-    alike_powers (a.0 % 16) (b.0 % 16) (under a.0) (under b.0)
-    ∙ ap (λ t. modulo_17.alike (meaning t) (meaning (Power b))) (sym ex) ∙ ap (λ t. modulo_17.alike (meaning x) (meaning t)) (sym ey)
+pub inverse_means : (p : Option Exponent) → Inverse modulo_17 (meaning (held p)) (meaning (held (option_map inverted p)))
+inverse_means None = record { of_nought = λ z. refl; of_other = λ z. absurd (z refl) }
+inverse_means (Some a) = record {
+  of_nought = λ z. absurd (code_nonzero a (ap (λ (r : Residue 17). r.code) z));
+  of_other = λ z. rest_same 17 positive _ 1 (upside (a.0 % 16) (under a.0));
+}
 
 -- the codes
 
@@ -155,32 +159,11 @@ element-told c = elim (cases_lt c 17) [
 pub is_coded : Coded modulo_17 17 (λ c. meaning (element c))
 is_coded = subst (λ f. Coded modulo_17 17 f) (λ i c. sym (element-told c) i) (coded 17 positive (lit< tt))
 
--- inverses
-
-power_nonzero : (a : Exponent) → meaning (Power a) ≢ modulo_17.nought
-power_nonzero a e =
-    let z : at (a.0 % 16) ≡ 0 = sym (meaning_code (Power a)) ∙ ap (λ (r : Residue 17). r.code) e in
-    omega (arith, code_low (a.0 % 16) (under a.0))
-
-pub inverse_power : (x : Seventeen) (a : Exponent) → x ≡ Power a → Inverse modulo_17 (meaning x) (meaning (Power (record { 0 = (16 - a.0 % 16) % 16 })))
-inverse_power x a e =
-    subst (λ t. Inverse modulo_17 (meaning t) (meaning (Power (record { 0 = (16 - a.0 % 16) % 16 })))) (sym e) (record {
-      of_nought = λ z. absurd (power_nonzero a z);
-      of_other = λ z. rest_same 17 positive _ 1 (upside (a.0 % 16) (under a.0));
-    })
-
-pub inverse_zero : (x : Seventeen) → x ≡ Zero → Inverse modulo_17 (meaning x) (meaning Zero)
-inverse_zero x e = subst (λ t. Inverse modulo_17 (meaning t) (meaning Zero)) (sym e) (record { of_nought = λ z. refl; of_other = λ z. absurd (z refl) })
-
-inverse_held : (x : Seventeen) → (y : Residue 17) × Inverse modulo_17 (meaning x) y
-inverse_held Zero = (meaning Zero, inverse_zero Zero refl)
-inverse_held (Power a) = (meaning (Power (record { 0 = (16 - a.0 % 16) % 16 })), inverse_power (Power a) a refl)
-
 element-rest : (r : Residue 17) → meaning (element r.code) ≡ r
 element-rest r = element-told r.code ∙ told_below 17 positive r.code (code_below r) ∙ sym (code_rest 17 positive r)
 
 pub invertible : Invertible modulo_17
-invertible r = subst (λ t. (y : Residue 17) × Inverse modulo_17 t y) (element-rest r) (inverse_held (element r.code))
+invertible r = subst (λ t. (y : Residue 17) × Inverse modulo_17 t y) (element-rest r) (meaning (held (option_map inverted (element r.code).power)), inverse_means (element r.code).power)
 
 -- the powers of 3
 
@@ -190,8 +173,8 @@ is_primitive = record {
   once = λ d e hd he z. sym (number_at d hd) ∙ ap number_of (sym (powers_right d hd) ∙ ap (λ (r : Residue 17). r.code) z ∙ powers_right e he) ∙ number_at e he;
   every = λ r z. (
     number_of r.code,
-    number-high r.code (code_below r),
+    number_high r.code (code_below r),
     residue_same (power modulo_17 (meaning three) (number_of r.code)) r
-        (powers_right (number_of r.code) (number-high r.code (code_below r)) ∙ at-number r.code (code_below r) (λ e. z (residue_same r modulo_17.nought e))),
+        (powers_right (number_of r.code) (number_high r.code (code_below r)) ∙ at-number r.code (code_below r) (λ e. z (residue_same r modulo_17.nought e))),
   );
 }

@@ -1,9 +1,10 @@
 -- The residues modulo q are a commutative ring, and their codes are the numbers below q.
-use Rattle.std.specs.Prelude.{◌≡◌, ℕ, zero, suc, ◌+◌, ◌-◌, ◌*◌, ◌/◌, ◌%◌, ◌^◌, ◌<◌, ◌≤◌, true, cond, nat_lt, refl}
-use Rattle.std.proofs.Common.{sym, ap, ◌∙◌, add_assoc, add_comm, add-zero, mul_assoc, mul_comm, mul-one, mul-add, add-mul, mul_right_comm, mod-lt, mod-eq_of_lt, pow-suc, one-add, arith}
+use Rattle.std.specs.Prelude.{◌≡◌, ℕ, zero, suc, ◌+◌, ◌-◌, ◌*◌, ◌%◌, ◌^◌, ◌<◌, ◌≤◌, true, cond, nat_lt, refl}
+use Rattle.std.proofs.Common.{sym, ap, ◌∙◌, add_assoc, add_comm, add-zero, mul_assoc, mul_comm, mul-one, mul-add, mod-lt, mod-eq_of_lt, pow-suc, one-add, arith}
 use Rattle.std.proofs.Math.Bool.{Bool-set}
 use mathlib.Core.HLevel.{is_prop→PathP}
-use Rattle.std.proofs.Math.Nat.{mod_self, zero-mod, mod-mod, mod-add-mod, add-mod-mod, add-mod, mod-add-div', add-mul-mod_self_right, pow-zero}
+use Rattle.std.proofs.Math.Nat.{mod_self, zero-mod, mod-mod, mod-add-mod, add-mod-mod, add-mod, pow-zero}
+use Rattle.std.proofs.lemmas.Nat.{mul-mod}
 use Rattle.std.proofs.lemmas.Bool.{ltb-true, eqb-true, eq-eqb, lt-ltb, le-ltb, cond-true, cond-false}
 use Rattle.algebra.specs.Rings.{Lawful, power, number}
 use Rattle.algebra.specs.Fields.{Coded}
@@ -18,14 +19,11 @@ residue_same {q} x y p = λ i. record {
 
 -- a factor can be taken by its rest
 pub rest-mul : (a b m : ℕ) → (a % m * b) % m ≡ (a * b) % m
-rest-mul a b m =
-    sym (ap (λ (x : ℕ). (x * b) % m) (sym (mod-add-div' a m))
-    ∙ ap (λ (x : ℕ). x % m) (add-mul (a % m) (a / m * m) b ∙ ap (λ (x : ℕ). a % m * b + x) (mul_right_comm (a / m) m b))
-    ∙ add-mul-mod_self_right (a % m * b) (a / m * b) m)
+rest-mul a b m = mul-mod (a % m) b m ∙ ap (λ (x : ℕ). (x * (b % m)) % m) (mod-mod a m) ∙ sym (mul-mod a b m)
 
 -- and so can the other
 pub mul-rest : (a b m : ℕ) → (a * (b % m)) % m ≡ (a * b) % m
-mul-rest a b m = ap (λ (x : ℕ). x % m) (mul_comm a (b % m)) ∙ rest-mul b a m ∙ ap (λ (x : ℕ). x % m) (mul_comm b a)
+mul-rest a b m = mul-mod a (b % m) m ∙ ap (λ (x : ℕ). (a % m * x) % m) (mod-mod b m) ∙ sym (mul-mod a b m)
 
 -- a code is below q
 pub code_below : {q : ℕ} (x : Residue q) → x.code < q
@@ -87,6 +85,10 @@ module _ (q : ℕ) (pos : 0 < q) where
   pub told_code : (c : ℕ) → c < q → (told c).code ≡ c
   told_code c h = ap (λ (x : Residue q). x.code) (told_below c h) ∙ mod-eq_of_lt h
 
+  -- a code that means n is the rest of n
+  pub code_told : (c n : ℕ) → c < q → told c ≡ rest q pos n → c ≡ n % q
+  code_told c n h e = sym (told_code c h) ∙ ap (λ (x : Residue q). x.code) e
+
   -- each code below q has one element, and each element one code
   pub coded : 1 < q → Coded (residues q pos) q told
   coded big = record {
@@ -111,7 +113,7 @@ module _ (q : ℕ) (pos : 0 < q) where
   rest-plus a b = rest_same (a + b) (a % q + b % q) (add-mod a b q)
 
   pub rest-times : (a b : ℕ) → rest q pos (a * b) ≡ (residues q pos).times (rest q pos a) (rest q pos b)
-  rest-times a b = rest_same (a * b) (a % q * (b % q)) (sym (mul-rest (a % q) b q ∙ rest-mul a b q))
+  rest-times a b = rest_same (a * b) (a % q * (b % q)) (mul-mod a b q)
 
   -- what is below q is its own rest
   pub held_once : (a b : ℕ) → a < q → b < q → rest q pos a ≡ rest q pos b → a ≡ b

@@ -27,8 +27,8 @@ pub shop-tower : Tower shop_order 7 26
 shop-tower = record { splits = shop_is; odd = refl; small = lit≤ tt; tall = lit≤ tt }
 
 -- its codes
-pub shop-coded : Coded shop shop_order (told shop_order shop_pos)
-shop-coded = coded shop_order shop_pos (rw shop_is (lit< tt))
+pub shop_coded : Coded shop shop_order (told shop_order shop_pos)
+shop_coded = coded shop_order shop_pos (rw shop_is (lit< tt))
 
 -- three to the seventh
 abbrev seventh : Residue shop_order

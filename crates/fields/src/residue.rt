@@ -1,3 +1,5 @@
+#![tactic(auto, using(crate::specs::ShopLemmas::shop_is, crate::specs::ShopLemmas::shop_bounded, crate::specs::ShopLemmas::shop_coded, crate::specs::ShopLemmas::shop_primitive))]
+
 ghost use Rattle.std.specs.Prelude.{◌≡◌, ◌%◌, ◌<◌, if◌then◌else◌, nat_lt};
 ghost use Rattle.fields.specs.Residues.{rest};
 ghost use Rattle.fields.specs.Shop.{shop_order, shop_pos, shop};
@@ -19,12 +21,15 @@ pub struct Residue {
     pub code: Code,
 }
 
-// The residue of a number, held by the code below ORDER.
-fn reduced(n: u64) -> Residue
-    ensures { result.code.0 ≡ n % shop_order }
-{
-    Residue {
-        code: Code((n % ORDER as u64) as u32),
+impl From<u64> for Residue {
+    ghost from_gives = { λ n r. r.code.0 ≡ n % shop_order };
+
+    // the residue of a number, held by its code
+    fn from(n: u64) -> Residue {
+        // `as` and not u64::from, by which the transform of the program bench takes 49 microseconds in place of 31
+        Residue {
+            code: Code((n % ORDER as u64) as u32),
+        }
     }
 }
 
@@ -50,20 +55,19 @@ impl Ring for Residue {
     }
 
     fn add(self, other: Residue) -> Residue {
-        reduced(self.code.0 as u64 + other.code.0 as u64)
+        Residue::from(u64::from(self.code.0) + u64::from(other.code.0))
     }
 
     fn mul(self, other: Residue) -> Residue {
-        reduced(self.code.0 as u64 * other.code.0 as u64)
+        Residue::from(u64::from(self.code.0) * u64::from(other.code.0))
     }
 
     fn neg(self) -> Residue {
-        let rest = self.code.0 % ORDER;
-        reduced((ORDER - rest) as u64)
+        Residue::from(u64::from(ORDER - self.to_code().0))
     }
 
     fn same(self, other: Residue) -> bool {
-        self.code.0 % ORDER == other.code.0 % ORDER
+        self.to_code() == other.to_code()
     }
 }
 
@@ -95,8 +99,11 @@ impl Field for Residue {
     }
 
     fn from_code(code: Code) -> Residue {
-        let held = if code.0 < ORDER { code.0 } else { 0 };
-        Residue { code: Code(held) }
+        if code.0 < ORDER {
+            Residue { code }
+        } else {
+            Residue::zero()
+        }
     }
 
     fn to_code(self) -> Code {

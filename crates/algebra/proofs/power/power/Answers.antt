@@ -1,13 +1,8 @@
 use Rattle.std.proofs.Common.{◌≡◌, ◌/◌, sym, ap, ◌∙◌, subst, ap₂, arith}
 use Rattle.algebra.specs.Rings.{raised}
-use Rattle.algebra.proofs.Raised.{raised_start, raised_end, raised_even, raised_odd}
+use Rattle.algebra.proofs.Raised.{raised_end, raised_even, raised_odd}
 use Rattle.algebra.proofs.power.power.Goals as goal
 use Rattle.algebra.proofs.power.power.Goals.{then-left-eq1, else-left-eq1}
-
-pub loop-left-init : goal.loop-left-init
-loop-left-init g c =
-    let R = g.R.Ring in
-    (raised_start R.ring g.met.R.Ring.lawful (R.value c.one-answer.result) (R.value c.args.x) c.args.exponent c.one-answer.ensures.means, c.one-answer.ensures.held)
 
 pub loop-left-preserved : goal.loop-left-preserved
 loop-left-preserved g c =
@@ -30,10 +25,7 @@ loop-left-preserved g c =
       )
     ]
 
-pub returns : goal.returns
-returns g c =
+pub returns-clause-means : goal.returns-clause-means
+returns-clause-means g c =
     let R = g.R.Ring in
-    record {
-      means = sym (raised_end R.ring g.met.R.Ring.lawful (R.value c.loop-left.answer) (R.value c.loop-left.square) c.loop-left.left (omega arith)) ∙ c.loop-left.invariant.0;
-      held = c.loop-left.invariant.1;
-    }
+    sym (raised_end R.ring g.met.R.Ring.lawful (R.value c.loop-left.answer) (R.value c.loop-left.square) c.loop-left.left (omega arith)) ∙ c.loop-left.invariant.0

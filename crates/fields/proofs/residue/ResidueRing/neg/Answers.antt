@@ -1,15 +1,14 @@
-use Rattle.std.proofs.Common.{ℕ, ◌-◌, ◌%◌, sym, ap, ◌∙◌}
+use Rattle.std.proofs.Common.{◌≡◌, ◌-◌, ◌%◌, ℕ, sym, ap, ap₂, ◌∙◌}
 use Rattle.fields.specs.Shop.{shop_order, shop_pos}
 use Rattle.fields.specs.ShopLemmas.{shop_is}
-use Rattle.fields.specs.ResiduesLemmas.{held_below, held_rest}
+use Rattle.fields.specs.ResiduesLemmas.{held_rest, code_told}
 use Rattle.fields.proofs.residue.ResidueRing.neg.Goals as goal
 
-pub returns : goal.returns
-returns c =
+pub returns-clause-means : goal.returns-clause-means
+returns-clause-means c =
     let a = c.args.self.code.0 in
-    let r = c.reduced.result.code.0 in
-    let e = c.reduced.ensures ∙ ap (λ (n : ℕ). (n - a % n) % shop_order) (sym shop_is) in
-    record {
-      means = held_rest shop_order shop_pos r (shop_order - a % shop_order) e;
-      held = held_below shop_order shop_pos r (shop_order - a % shop_order) e;
-    }
+    let n = shop_order - a % shop_order in
+    let r = c.from-2.result.code.0 in
+    let code = code_told shop_order shop_pos c.to_code.result.0 a c.to_code.ensures.below c.to_code.ensures.means in
+    let e : r ≡ n % shop_order = c.from-2.ensures ∙ ap (λ (m : ℕ). m % shop_order) (c.from.ensures ∙ ap₂ (λ x y. x - y) (sym shop_is) code) in
+    held_rest shop_order shop_pos r n e

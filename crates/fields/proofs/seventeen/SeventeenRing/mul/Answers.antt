@@ -1,15 +1,10 @@
-use Rattle.std.proofs.Common.{mod-lt, lit<}
-use Rattle.fields.specs.Field17.{product-means, zero-product, product-zero}
+use Rattle.std.proofs.Common.{◌≡◌, ap, ◌∙◌, rules}
+use Rattle.std.specs.Option.{option_map, option_zip}
+use Rattle.fields.specs.Seventeen.{added, meaning}
+use Rattle.fields.specs.Field17.{held, product-means}
 use Rattle.fields.proofs.seventeen.SeventeenRing.mul.Goals as goal
 
-pub returns-in-Zero : goal.returns-in-Zero
-returns-in-Zero c = record { means = zero-product c.args.self c.args.other c.in-Zero.is; held = tt }
-
-pub returns-in-Zero-other : goal.returns-in-Zero-other
-returns-in-Zero-other c = record { means = product-zero c.args.self c.args.other c.in-Zero-other.is; held = tt }
-
-pub returns-in-Power-other : goal.returns-in-Power-other
-returns-in-Power-other c = record {
-  means = product-means c.args.self c.args.other c.in-Power.a c.in-Power-other.b c.in-Power.is c.in-Power-other.is;
-  held = mod-lt _ (lit< tt);
-}
+pub returns-clause-means : goal.returns-clause-means
+returns-clause-means c =
+    let is : c.map-power.result ≡ option_map (λ t. added t.0 t.1) (option_zip c.args.self.power c.args.other.power) = search rules in
+    ap (λ p. meaning (held p)) is ∙ product-means c.args.self.power c.args.other.power

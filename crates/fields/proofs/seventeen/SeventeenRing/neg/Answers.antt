@@ -1,9 +1,10 @@
-use Rattle.std.proofs.Common.{mod-lt, lit<}
-use Rattle.fields.specs.Field17.{opposite_means, opposite_zero}
+use Rattle.std.proofs.Common.{◌≡◌, ap, ◌∙◌, rules}
+use Rattle.std.specs.Option.{option_map}
+use Rattle.fields.specs.Seventeen.{added, meaning}
+use Rattle.fields.specs.Field17.{held, opposite_means}
 use Rattle.fields.proofs.seventeen.SeventeenRing.neg.Goals as goal
 
-pub returns-in-Zero : goal.returns-in-Zero
-returns-in-Zero c = record { means = opposite_zero c.args.self c.in-Zero.is; held = tt }
-
-pub returns-in-Power : goal.returns-in-Power
-returns-in-Power c = record { means = opposite_means c.args.self c.in-Power.a c.in-Power.is; held = mod-lt _ (lit< tt) }
+pub returns-clause-means : goal.returns-clause-means
+returns-clause-means c =
+    let is : c.map.result ≡ option_map (λ a. added a (record { 0 = 8 })) c.args.self.power = search rules in
+    ap (λ p. meaning (held p)) is ∙ opposite_means c.args.self.power

@@ -1,5 +1,0 @@
-use Rattle.fields.specs.ShopLemmas.{shop_is}
-use Rattle.fields.proofs.residue.reduced.Goals as goal
-
-pub returns : goal.returns
-returns c = rw shop_is
