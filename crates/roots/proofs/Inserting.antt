@@ -1,54 +1,60 @@
--- A pass that carries a code to its place.
-use Rattle.std.proofs.Common.{◌≡◌, ℕ, ◌+◌, ◌<◌, ◌≤◌, cond, List, [], ◌∷◌, ◌++◌, length, get_or, take, drop, set, sym, ap, ◌∙◌, ap₂, add-zero, arith, length-take}
-use Rattle.std.proofs.lemmas.List.{append_assoc, map-append, take_more, take_more_set, drop_more, drop_all, get_or-drop, get_or-take, drop-drop}
-use Rattle.std.proofs.lemmas.Bool.{lt-ltb, le-ltb}
-use Rattle.roots.specs.Lists.{put}
-use Rattle.roots.specs.Roots.{codes}
-use Rattle.roots.specs.declared.record.RootRecord.{RootRecord}
+-- A code put in its place among ascending ones.
+use Rattle.std.proofs.Common.{◌≡◌, ℕ, zero, suc, ◌-◌, ◌<◌, ◌≤◌, ltb, List, [], ◌∷◌, ◌++◌, length, get_or, take, drop, refl, sym, ap, ◌∙◌, ap₂, inl, inr, arith, length-drop, length-append}
+use Rattle.std.proofs.lemmas.List.{append-nil, take_at, take-append-le, drop_at, drop-append-le, drop_all, take_rest}
+use Rattle.std.proofs.lemmas.Bool.{cond_both, ltb-true, ltb-false}
+use borrow.Rule.Slice.PartMut.{put_mid}
+use Rattle.roots.specs.Lists.{In, put}
+use Rattle.roots.specs.Roots.{Ascending}
 
-same_here : {X : Type 0} (xs ys : List X) (i : ℕ) (d : X) → drop i ys ≡ drop i xs → get_or ys i d ≡ get_or xs i d
-same_here xs ys i d e =
-    ap (λ k. get_or ys k d) (sym (add-zero i)) ∙ sym (get_or-drop i ys 0 d) ∙ ap (λ l. get_or l 0 d) e ∙ get_or-drop i xs 0 d ∙ ap (λ k. get_or xs k d) (add-zero i)
+in_get : (xs : List ℕ) (i : ℕ) → i < length xs → In (get_or xs i 0) xs
+in_get [] i h = absurd (omega arith)
+in_get (x ∷ xs) zero h = inl refl
+in_get (x ∷ xs) (suc i) h = inr (in_get xs i (omega arith))
 
-pub same_after : {X : Type 0} (xs ys : List X) (i : ℕ) → drop i ys ≡ drop i xs → drop (i + 1) ys ≡ drop (i + 1) xs
-same_after xs ys i e = sym (drop-drop 1 i ys) ∙ ap (drop 1) e ∙ drop-drop 1 i xs
+pub ascending_get : (xs : List ℕ) → Ascending xs → (i j : ℕ) → i ≤ j → j < length xs → get_or xs i 0 ≤ get_or xs j 0
+ascending_get [] A i j le h = absurd (omega arith)
+ascending_get (x ∷ xs) A zero zero le h = omega arith
+ascending_get (x ∷ xs) A zero (suc j) le h = let lt : x < get_or xs j 0 = A.0 (get_or xs j 0) (in_get xs j (omega arith)) in omega arith
+ascending_get (x ∷ xs) A (suc i) zero le h = absurd (omega arith)
+ascending_get (x ∷ xs) A (suc i) (suc j) le h = ascending_get xs A.1 i j (omega arith) (omega arith)
 
-module _ (xs ys : List RootRecord) (i count : ℕ) (c : RootRecord) (goal : List ℕ) (d : RootRecord)
-    (inside : i < count) (within : count < length xs) (long : length ys ≡ length xs)
-    (inv : codes (take i ys) ++ put c.code.0 (codes (drop i (take count xs))) ≡ goal) (same : drop i ys ≡ drop i xs) where
-  rest : List ℕ
-  rest = codes (drop (i + 1) (take count xs))
+put_first : (c : ℕ) (xs : List ℕ) → (0 < length xs → c ≤ get_or xs 0 0) → Ascending xs → put c xs ≡ c ∷ xs
+put_first c [] h A = refl
+put_first c (x ∷ xs) h A =
+    let le : c ≤ x = h (omega arith) in
+    let next : 0 < length xs → x ≤ get_or xs 0 0 = λ pos. let lt : x < get_or xs 0 0 = A.0 (get_or xs 0 0) (in_get xs 0 pos) in omega arith in
+    cond_both (ltb c x) (c ∷ put x xs) (x ∷ put c xs) (λ l. l ≡ c ∷ (x ∷ xs))
+    (λ _. ap (λ l. c ∷ l) (put_first x xs next A.1))
+    (λ e. (let low : x ≤ c = ltb-false c x e in let same : x ≡ c = omega arith in
+    ap (λ l. x ∷ l) (put_first c xs (λ pos. (let lt : x ≤ get_or xs 0 0 = next pos in omega arith)) A.1) ∙ ap₂ (λ a b. a ∷ (b ∷ xs)) same (sym same)))
 
-  split : codes (drop i (take count xs)) ≡ (get_or ys i d).code.0 ∷ codes (drop (i + 1) (take count xs))
-  split = ap codes (drop_more (take count xs) i d (omega (arith, length-take count xs)))
-      ∙ ap (λ r. r.code.0 ∷ codes (drop (i + 1) (take count xs))) (get_or-take count xs i d inside ∙ sym (same_here xs ys i d same))
+-- behind the lower ones
+pub put_at : (c : ℕ) (xs : List ℕ) (i : ℕ) → i ≤ length xs → ((k : ℕ) → k < i → get_or xs k 0 < c) → ((k : ℕ) → i ≤ k → k < length xs → c ≤ get_or xs k 0)
+    → Ascending xs → put c xs ≡ take i xs ++ (c ∷ drop i xs)
+put_at c xs zero le low high A = put_first c xs (λ pos. high 0 (omega arith) pos) A
+put_at c [] (suc i) le low high A = absurd (omega arith)
+put_at c (x ∷ xs) (suc i) le low high A =
+    cond_both (ltb c x) (c ∷ put x xs) (x ∷ put c xs) (λ l. l ≡ x ∷ (take i xs ++ (c ∷ drop i xs)))
+    (λ e. (let lt : c < x = ltb-true c x e in let gt : x < c = low 0 (omega arith) in absurd (omega arith)))
+    (λ _. ap (λ l. x ∷ l) (put_at c xs i (omega arith) (λ k h. low (suc k) (omega arith)) (λ k g h. high (suc k) (omega arith) (omega arith)) A.1))
 
-  joined : (a : ℕ) (p q : List ℕ) → (p ++ (a ∷ [])) ++ q ≡ p ++ (a ∷ q)
-  joined a p q = append_assoc p (a ∷ []) q
+-- the last of a list moved to the place i
+module _ {X : Type 0} (l xs ys : List X) (x : X) (i : ℕ) (split : l ≡ xs ++ (x ∷ [])) (inside : i ≤ length xs) where
+  part : List X
+  part = take (length l - i) (drop i l)
 
-  -- the record stays, and the carried code goes on
-  pub keep_step : (get_or ys i d).code.0 ≤ c.code.0 → codes (take (i + 1) ys) ++ put c.code.0 (codes (drop (i + 1) (take count xs))) ≡ goal
-  unfolding rest
-  keep_step le =
-      ap (λ l. codes l ++ put c.code.0 rest) (take_more ys i d (omega arith))
-      ∙ ap (λ l. l ++ put c.code.0 rest) (map-append (λ r. r.code.0) (take i ys) (get_or ys i d ∷ []))
-      ∙ joined (get_or ys i d).code.0 (codes (take i ys)) (put c.code.0 rest)
-      ∙ ap (λ b. codes (take i ys) ++ cond b (c.code.0 ∷ put (get_or ys i d).code.0 rest) ((get_or ys i d).code.0 ∷ put c.code.0 rest)) (sym (le-ltb c.code.0 (get_or ys i d).code.0 le))
-      ∙ ap (λ l. codes (take i ys) ++ put c.code.0 l) (sym split) ∙ inv
+  part-is : part ≡ drop i xs ++ (x ∷ [])
+  unfolding part
+  part-is = take_rest l i ∙ ap (drop i) split ∙ drop-append-le i xs (x ∷ []) inside
 
-  -- the carried record takes its place, and it is carried on
-  pub swap_step : c.code.0 < (get_or ys i d).code.0 → codes (take (i + 1) (set ys i c)) ++ put (get_or ys i d).code.0 (codes (drop (i + 1) (take count xs))) ≡ goal
-  unfolding rest
-  swap_step lt =
-      ap (λ l. codes l ++ put (get_or ys i d).code.0 rest) (take_more_set ys i c (omega arith))
-      ∙ ap (λ l. l ++ put (get_or ys i d).code.0 rest) (map-append (λ r. r.code.0) (take i ys) (c ∷ []))
-      ∙ joined c.code.0 (codes (take i ys)) (put (get_or ys i d).code.0 rest)
-      ∙ ap (λ b. codes (take i ys) ++ cond b (c.code.0 ∷ put (get_or ys i d).code.0 rest) ((get_or ys i d).code.0 ∷ put c.code.0 rest)) (sym (lt-ltb c.code.0 (get_or ys i d).code.0 lt))
-      ∙ ap (λ l. codes (take i ys) ++ put c.code.0 l) (sym split) ∙ inv
-
--- at the end the carried record is written behind the others
-pub last_step : (xs ys : List RootRecord) (i count : ℕ) (c : RootRecord) (goal : List ℕ) → i ≡ count → count < length ys
-    → codes (take i ys) ++ put c.code.0 (codes (drop i (take count xs))) ≡ goal → codes (take (count + 1) (set ys count c)) ≡ goal
-last_step xs ys i count c goal e inside inv =
-    ap codes (take_more_set ys count c inside) ∙ map-append (λ r. r.code.0) (take count ys) (c ∷ [])
-    ∙ ap₂ (λ k l. codes (take k ys) ++ put c.code.0 (codes l)) (sym e) (sym (drop_all i (take count xs) (omega (arith, length-take count xs)))) ∙ inv
+  pub last_moved : ys ≡ drop (length (take (length l - i) (drop i l)) - 1) (take (length l - i) (drop i l)) ++ take (length (take (length l - i) (drop i l)) - 1) (take (length l - i) (drop i l))
+      → put_mid i (length l - i) l ys ≡ take i xs ++ (x ∷ drop i xs)
+  unfolding part
+  last_moved e =
+      let q : List X = drop i xs ++ (x ∷ []) in
+      let n : length (drop i xs) ≡ length q - 1 = omega (arith, length-append (drop i xs) (x ∷ [])) in
+      let moved : ys ≡ x ∷ drop i xs =
+      e ∙ ap (λ p. drop (length p - 1) p ++ take (length p - 1) p) part-is
+      ∙ ap₂ (λ a b. a ++ b) (drop_at (drop i xs) (x ∷ []) (length q - 1) n) (take_at (drop i xs) (x ∷ []) (length q - 1) n) in
+      ap₂ (λ a b. a ++ b) (ap (take i) split ∙ take-append-le i xs (x ∷ []) inside)
+      (ap₂ (λ a b. a ++ b) moved (drop_all (length l - i) (drop i l) (omega (arith, length-drop i l))) ∙ append-nil (x ∷ drop i xs))

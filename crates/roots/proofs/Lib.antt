@@ -9,7 +9,7 @@ pub mod GraeffeSteps
 pub mod RootSteps
 pub mod Towers
 pub mod Checking
-pub mod Segments
+pub mod Slices
 pub mod TangentLaws
 pub mod ListLaws
 pub mod SearchLaws
@@ -21,5 +21,6 @@ pub mod Inserting
 pub mod Visiting
 pub mod Searching
 pub mod Building
+pub mod Holding
 pub mod Coding
 pub mod Weighing

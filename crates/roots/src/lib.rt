@@ -2,17 +2,15 @@
 #![tactic(auto)]
 
 mod build;
-mod check;
 mod climb;
+mod coefficients;
 mod divide;
 mod found;
-mod insert;
 pub mod level;
 pub mod lift;
 pub mod list;
 pub mod record;
-mod search;
+mod tower;
 mod trial;
 mod verdict;
-mod visit;
 mod weigh;

@@ -3,7 +3,7 @@ ghost use Rattle.algebra.specs.Refusals.{reply};
 ghost use Rattle.roots.specs.Codes.{element, polynomial};
 ghost use Rattle.roots.specs.Roots.{lifting, Lifted};
 
-use crate::check::check;
+use crate::coefficients::Coefficients;
 use crate::level::rise;
 use crate::trial::judge;
 use crate::verdict::Verdict;
@@ -22,14 +22,14 @@ pub fn lift<F: Field>(
     ensures answers { reply result ≡ lifting F.Field.order F.Field.levels f.now k code.0 (length work.old) }
     ensures lifts { MatchResult result (Lifted F.Ring F.Field.own (polynomial F.Ring F.Field.own f.now) k (element F.Ring F.Field.own code.0)) (λ _. work.new ≡ work.old) }
 {
-    check::<F>(f)?;
+    let f = Coefficients::<F>::new(f)?;
     if k == 0 || k > F::height() {
         return Err(Refusal::Level(k));
     }
     if code.0 >= field_laws::<F>() {
         return Err(Refusal::Code(code.0));
     }
-    let needed = 2 * f.len();
+    let needed = 2 * f.codes.len();
     if work.len() < needed {
         return Err(Refusal::Short(needed));
     }
@@ -37,8 +37,8 @@ pub fn lift<F: Field>(
     if code.0 == 0 {
         return Ok(None);
     }
-    match judge(work, 0, f.len(), k, F::from_code(code)) {
+    match judge(&work[..f.codes.len()], k, F::from_code(code)) {
         Verdict::Root(root) => Ok(Some(root)),
-        _ => Ok(None),
+        Verdict::Nothing | Verdict::Both => Ok(None),
     }
 }

@@ -4,10 +4,10 @@ ghost use Rattle.roots.specs.Codes.{polynomial};
 ghost use Rattle.roots.specs.Roots.{listing, Listed};
 
 use crate::build::build;
-use crate::check::check;
+use crate::coefficients::Coefficients;
+use crate::found::Found;
 use crate::record::RootRecord;
-use crate::search::search;
-use crate::weigh::{total, weigh};
+use crate::tower::TangentTower;
 use algebra::code::Code;
 use algebra::dual::Dual;
 use algebra::field::{Field, field_laws};
@@ -30,23 +30,23 @@ pub fn roots<F: Field>(
     ensures answers { reply result ≡ listing F.Field.order F.Field.levels f.now (length list.old) (length work.old) }
     ensures lists { MatchResult result (λ a. Listed F.Ring F.Field.own (polynomial F.Ring F.Field.own f.now) list.old list.new a.count a.splits a.trials) (λ _. (list.new ≡ list.old) × (work.new ≡ work.old)) }
 {
-    check::<F>(f)?;
+    let f = Coefficients::<F>::new(f)?;
     let _order = field_laws::<F>();
-    let degree = f.len() - 1;
+    let degree = f.degree();
     if list.len() < degree {
         return Err(Refusal::Short(degree));
     }
-    let needed = (F::height() as usize + 1) * f.len();
+    let needed = (F::height() as usize + 1) * f.codes.len();
     if work.len() < needed {
         return Err(Refusal::Short(needed));
     }
     build(f, work);
-    let found = search(f, work, list);
-    weigh(f, list, found.count, work);
-    let splits = total(list, found.count) == degree as u64;
+    let mut found = Found::new(list);
+    TangentTower { f, levels: work }.search(&mut found);
+    found.weigh(f, work);
     Ok(RootList {
         count: found.count,
-        splits,
+        splits: found.total() == degree as u64,
         trials: found.trials,
     })
 }

@@ -1,4 +1,4 @@
-ghost use Rattle.std.specs.Prelude.{◌≡◌, ◌+◌, ◌^◌, ◌≤◌, ◌≢◌, List, length, take, drop};
+ghost use Rattle.std.specs.Prelude.{◌≡◌, ◌^◌, ◌≢◌, List};
 ghost use Rattle.algebra.specs.Rings.{number};
 ghost use Rattle.algebra.specs.Duals.{dual};
 ghost use Rattle.algebra.specs.Polynomials.{eval};
@@ -29,10 +29,10 @@ fn evaluate<F: Field>(level: &[Dual<F>], x: F) -> Trial<F>
     let mut value = F::zero();
     let mut slope = F::zero();
     let mut tangent = F::zero();
-    for i in (0..level.len()).rev() {
+    for d in level.iter().rev() {
         slope = value.add(x.mul(slope));
-        value = level[i].re.add(x.mul(value));
-        tangent = level[i].eps.add(x.mul(tangent));
+        value = d.re.add(x.mul(value));
+        tangent = d.eps.add(x.mul(tangent));
     }
     Trial {
         value,
@@ -49,14 +49,13 @@ fn lifted<F: Field>(k: u32, x: F, slope: F, tangent: F) -> F
     scaled.mul(tangent.inverse())
 }
 
-// Tries the level k of a tower, whose n dual numbers stand in the work space from the place `at` on, at x.
-pub(crate) fn judge<F: Field>(work: &[Dual<F>], at: usize, n: usize, k: u32, x: F) -> Verdict
-    requires room { at + n ≤ length work.now }
-    requires nonzero { F.Ring.value x ≢ F.Ring.ring.nought }
-    ensures { (f : List F.Ring.ring.V) → duals F.Ring (take n (drop at work.now)) ≡ tower (dual F.Ring.ring) (tangent F.Ring.ring f) k → Judged F.Ring F.Field.own f k (F.Ring.value x) result }
+// Tries the level k of a tangent tower at x.
+pub(crate) fn judge<F: Field>(level: &[Dual<F>], k: u32, x: F) -> Verdict
+    requires { F.Ring.value x ≢ F.Ring.ring.nought }
+    ensures { (f : List F.Ring.ring.V) → duals F.Ring level.now ≡ tower (dual F.Ring.ring) (tangent F.Ring.ring f) k → Judged F.Ring F.Field.own f k (F.Ring.value x) result }
 {
     let _order = field_laws::<F>();
-    let tried = evaluate(&work[at..at + n], x);
+    let tried = evaluate(level, x);
     if !tried.value.same(F::zero()) {
         return Verdict::Nothing;
     }

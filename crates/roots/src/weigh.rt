@@ -1,46 +1,39 @@
-ghost use Rattle.std.specs.Prelude.{◌≡◌, ℕ, ◌+◌, ◌*◌, ◌^◌, ◌<◌, ◌≤◌, map, length, take, drop, slice_index_or};
-ghost use Rattle.algebra.specs.Refusals.{accepted};
-ghost use Rattle.roots.specs.Lists.{added};
+ghost use Rattle.std.specs.Prelude.{◌≡◌, ℕ, ◌<◌, ◌≤◌, map, length, slice_index_or};
 ghost use Rattle.roots.specs.Division.{Multiplicity};
-ghost use Rattle.roots.specs.Codes.{element, polynomial, coded};
+ghost use Rattle.roots.specs.Codes.{element, polynomial};
+ghost use Rattle.roots.specs.Lists.{added};
+ghost use Rattle.roots.specs.Roots.{codes};
 
+use crate::coefficients::Coefficients;
 use crate::divide::multiplicity;
 use crate::record::RootRecord;
-use algebra::code::Code;
 use algebra::dual::Dual;
-use algebra::field::{Field, field_laws};
+use algebra::field::Field;
 
-// Writes the multiplicities of the roots of f in the first `count` records.
+// Writes the multiplicities of the roots of f.
 pub(crate) fn weigh<F: Field>(
-    f: &[Code],
-    list: &mut [RootRecord],
-    count: usize,
+    f: Coefficients<'_, F>,
+    roots: &mut [RootRecord],
     work: &mut [Dual<F>],
 )
-    requires good { coded F.Field.order f.now ≡ accepted }
-    requires room { length f.now ≤ length work.old }
-    requires inside { count ≤ length list.old }
-    ensures codes { (k : ℕ) (d : RootRecord) → (slice_index_or list.new k d).code ≡ (slice_index_or list.old k d).code }
-    ensures weighed { (k : ℕ) (d : RootRecord) → k < count → Multiplicity F.Ring.ring (polynomial F.Ring F.Field.own f.now) (element F.Ring F.Field.own (slice_index_or list.new k d).code.0) (slice_index_or list.new k d).multiplicity }
-    ensures rest { drop count list.new ≡ drop count list.old }
+    requires { length f.codes.now ≤ length work.old }
+    ensures codes { codes roots.new ≡ codes roots.old }
+    ensures weighed { (k : ℕ) (d : RootRecord) → k < length roots.new → Multiplicity F.Ring.ring (polynomial F.Ring F.Field.own f.entry.codes.now) (element F.Ring F.Field.own (slice_index_or roots.new k d).code.0) (slice_index_or roots.new k d).multiplicity }
 {
-    let _order = field_laws::<F>();
-    for j in 0..count {
-        let code = list[j].code;
-        let multiplicity = multiplicity(f, work, F::from_code(code));
-        list[j] = RootRecord { code, multiplicity };
+    for root in roots.iter_mut() {
+        root.multiplicity = multiplicity(f, work, F::from_code(root.code));
     }
 }
 
-// The multiplicities of the first `count` records added up.
-pub(crate) fn total(list: &[RootRecord], count: usize) -> u64
-    requires inside { count ≤ length list.now }
-    requires few { count ≤ 256 }
-    ensures { result ≡ added (map (λ x. x.multiplicity) (take count list.now)) }
+// The multiplicities of roots added up.
+pub(crate) fn total(roots: &[RootRecord]) -> u64
+    requires { length roots.now ≤ 256 }
+    ensures { result ≡ added (map (λ root. root.multiplicity) roots.now) }
 {
     let mut sum = 0u64;
-    for j in 0..count {
-        sum += list[j].multiplicity as u64;
+    // In a loop: that a multiplicity fits 32 bits is not known to the proof of a chain that ends in `sum`.
+    for root in roots {
+        sum += u64::from(root.multiplicity);
     }
     sum
 }

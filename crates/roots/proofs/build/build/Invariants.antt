@@ -7,4 +7,4 @@ use Rattle.roots.proofs.build.build.Given as goal
 
 abbrev pub invariant-loop-k : goal.invariant-loop-k
 invariant-loop-k g l = let R = g.F.Ring in
-    (j : ℕ) → j ≤ l.k → duals R (take l.n (drop (j * l.n) l.work)) ≡ tower (dual R.ring) (tangent R.ring (polynomial R g.F.Field l.codes)) j
+    (j : ℕ) → j ≤ l.k → duals R (take l.n (drop (j * l.n) l.work)) ≡ tower (dual R.ring) (tangent R.ring (polynomial R g.F.Field l.f.codes.now)) j
