@@ -24,7 +24,7 @@ impl<F: Field> Closed<F> {
         let _order = field_laws::<F>();
         let frame = self.body.frame;
         let others = other.body.frame;
-        if frame.width() != others.width() || frame.spare() != others.spare() {
+        if frame != others {
             return Err(Refusal::Unlike);
         }
         for k in 0..frame.count() {

@@ -5,7 +5,6 @@ mod access;
 mod admit;
 pub mod closed;
 pub mod frame;
-mod frames;
 pub mod open;
 mod raise;
 pub mod sums;
