@@ -1,10 +1,14 @@
-ghost use Rattle.std.specs.Prelude.{◌≡◌, ◌<◌, true, ◌↔◌, IfOk};
+ghost use Rattle.std.specs.Prelude.{◌≡◌, ℕ, ◌+◌, ◌*◌, ◌<◌, ◌≤◌, true, ◌↔◌, slice_index_or, IfOk};
+ghost use Rattle.algebra.specs.declared.code.Code.{Code};
 ghost use Rattle.algebra.specs.Refusals.{reply};
 ghost use Rattle.tally.specs.Contents.{comparing, Agree};
-ghost use Rattle.tally.specs.Bodies.{contents, element};
+ghost use Rattle.tally.specs.Bodies.{contents, element, Fresh};
+ghost use Rattle.tally.specs.Access.{code_at};
 ghost use Rattle.tally.specs.Reach.{Reaches};
 
+use crate::frame::Frame;
 use crate::sums::Sums;
+use algebra::code::Code;
 use algebra::field::{Field, field_laws};
 use algebra::refusal::Refusal;
 
@@ -33,5 +37,60 @@ impl<F: Field> Closed<F> {
             }
         }
         Ok(true)
+    }
+
+    // A tally of a frame in which nothing was moved.
+    pub fn blank(frame: Frame) -> Closed<F>
+        ensures { Fresh F.Ring frame result.body }
+    {
+        let zero = F::zero();
+        let sums = [zero; 96];
+        Closed {
+            body: Sums {
+                sums,
+                frame,
+                turnover: 0,
+            },
+        }
+    }
+
+    pub fn frame(&self) -> Frame
+        ensures { result ≡ self.now.body.frame }
+    {
+        self.body.frame
+    }
+
+    pub fn turnover(&self) -> u32
+        ensures { result ≡ self.now.body.turnover }
+    {
+        self.body.turnover
+    }
+
+    // The code of the sum k; code 0 where the frame has no such sum.
+    pub fn sum_code(&self, k: usize) -> Code
+        ensures below { result.0 < F.Field.order }
+        ensures means { k < 2 * self.now.body.frame.width + self.now.body.frame.spare → element F.Ring F.Field.own result.0 ≡ (contents F.Ring self.now.body).sum k }
+        ensures past { 2 * self.now.body.frame.width + self.now.body.frame.spare ≤ k → result.0 ≡ 0 }
+    {
+        let _order = F::size();
+        if k < self.body.frame.count() {
+            return self.body.sums[k].to_code();
+        }
+        Code(0)
+    }
+
+    // Replaces all that the tally holds: the sum k becomes the element of the code at k, and zero past the end of the codes.
+    pub fn restore(&mut self, frame: Frame, turnover: u32, codes: &[Code])
+        ensures framed { self.new.body.frame ≡ frame }
+        ensures turned { self.new.body.turnover ≡ turnover }
+        ensures sums { (k : ℕ) → k < 96 → (contents F.Ring self.new.body).sum k ≡ element F.Ring F.Field.own (code_at codes.now k) }
+        ensures held { (k : ℕ) (d : F) → k < 96 → F.Ring.canonical (slice_index_or self.new.body.sums k d) }
+    {
+        for k in 0..96 {
+            let code = if k < codes.len() { codes[k] } else { Code(0) };
+            self.body.sums[k] = F::from_code(code);
+        }
+        self.body.frame = frame;
+        self.body.turnover = turnover;
     }
 }

@@ -1,7 +1,6 @@
 // Tallies of part codes, kept as power sums in a finite field: frames, open and closed tallies, their logs, and comparing.
 #![tactic(auto)]
 
-mod access;
 mod admit;
 pub mod closed;
 pub mod frame;
