@@ -5,5 +5,6 @@ pub mod PowerSums
 pub mod Wholes
 pub mod Nets
 pub mod Netting
+pub mod Agreeing
 pub mod Comparing
 pub mod Restoring

@@ -6,7 +6,9 @@ use Rattle.algebra.specs.Rings.{Ops, Lawful, power, number}
 use Rattle.algebra.specs.Refusals.{accepted, or_else}
 use Rattle.algebra.proofs.Solver.{v, 𝟎, ◌⊗◌, ⊖◌, ◌⊝◌, solve}
 use Rattle.roots.specs.Lists.{In, Distinct}
-use Rattle.tally.specs.Contents.{Call, enter, withdraw, Contents, count, signed, limit, answering, Moved}
+use Rattle.tally.specs.declared.call.Call.{Call}
+use Rattle.tally.specs.declared.call.Call.TheVariants.{Enter, Withdraw}
+use Rattle.tally.specs.Contents.{Contents, count, signed, limit, answering, Moved}
 use Rattle.tally.specs.Logs.{Line, Log, line, took, moved, Answered, same_call, counted, net, moment, Kept}
 use Rattle.tally.specs.Nets.{weighted_sum}
 use Rattle.tally.proofs.PowerSums.{weighing, weighted_same, weighted-nought, weighted-plus, weighted_one}
@@ -72,18 +74,18 @@ pub moved-limit : (q : ℕ) (log : Log) → Answered q 0 log → moved log ≤ l
 moved-limit q log A = let h = moved-limit_from q 0 log (omega arith) A in omega arith
 
 shares : (b e : Bool) (c : Call) (n : ℕ)
-    → cond (b && (same_call enter c && e)) n 0 + cond (b && (same_call withdraw c && e)) n 0 ≤ cond b n 0
+    → cond (b && (same_call Enter c && e)) n 0 + cond (b && (same_call Withdraw c && e)) n 0 ≤ cond b n 0
 shares false e c n = omega arith
-shares true true enter n = omega arith
-shares true true withdraw n = omega arith
-shares true false enter n = omega arith
-shares true false withdraw n = omega arith
+shares true true Enter n = omega arith
+shares true true Withdraw n = omega arith
+shares true false Enter n = omega arith
+shares true false Withdraw n = omega arith
 
-counted-moved : (log : Log) (a : ℕ) → counted enter log a + counted withdraw log a ≤ moved log
+counted-moved : (log : Log) (a : ℕ) → counted Enter log a + counted Withdraw log a ≤ moved log
 counted-moved [] a = omega arith
 counted-moved (l ∷ log) a = let h = counted-moved log a in let s = shares (took l) (eqb l.code a) l.call l.quantity in omega arith
 
-pub net_bound : (q : ℕ) (log : Log) → Answered q 0 log → (a : ℕ) → counted enter log a + counted withdraw log a ≤ limit q
+pub net_bound : (q : ℕ) (log : Log) → Answered q 0 log → (a : ℕ) → counted Enter log a + counted Withdraw log a ≤ limit q
 net_bound q log A a = omega (arith, counted-moved log a, moved-limit q log A)
 
 pub net_low : (q : ℕ) (log : Log) → Answered q 0 log → (a : ℕ) → (pos 0 -ℤ pos (limit q)) ≤ℤ net log a
@@ -119,7 +121,7 @@ counted_absent c (l ∷ log) a h =
 
 -- a code of no accepted line
 pub net_absent : (log : Log) (a : ℕ) → ((l : Line) → In l log → took l ≡ true → l.code ≢ a) → net log a ≡ pos 0
-net_absent log a h = let e = counted_absent enter log a h in let w = counted_absent withdraw log a h in omega (arith, ints)
+net_absent log a h = let e = counted_absent Enter log a h in let w = counted_absent Withdraw log a h in omega (arith, ints)
 
 pub net_outside : (q : ℕ) (log : Log) → Answered q 0 log → (a : ℕ) → (a ≡ 0) ⊎ (q ≤ a) → net log a ≡ pos 0
 net_outside q log A a out = net_absent log a (λ l i k e. (let t = took_code q log A l i k in elim out [ inl z ↦ omega arith | inr z ↦ omega arith ]))
@@ -157,20 +159,20 @@ module _ (o : Ops) (L : Lawful o) (at : ℕ → o.V) where
 
   -- the weight of one line at a code
   single : (b e : Bool) (c : Call) (n : ℕ)
-      → o.plus (number o (cond (b && (same_call enter c && e)) n 0 + 0)) (o.minus (number o (cond (b && (same_call withdraw c && e)) n 0 + 0)))
+      → o.plus (number o (cond (b && (same_call Enter c && e)) n 0 + 0)) (o.minus (number o (cond (b && (same_call Withdraw c && e)) n 0 + 0)))
       ≡ cond (b && e) (signed o c (number o n)) o.nought
   single false e c n = solve o L [] (𝟎 ⊝ 𝟎) 𝟎 refl
-  single true true enter n = rw add-zero (solve o L (number o n ∷ []) (v 0 ⊝ 𝟎) (v 0) refl)
-  single true true withdraw n = rw add-zero (solve o L (number o n ∷ []) (𝟎 ⊝ v 0) (⊖ v 0) refl)
-  single true false enter n = solve o L [] (𝟎 ⊝ 𝟎) 𝟎 refl
-  single true false withdraw n = solve o L [] (𝟎 ⊝ 𝟎) 𝟎 refl
+  single true true Enter n = rw add-zero (solve o L (number o n ∷ []) (v 0 ⊝ 𝟎) (v 0) refl)
+  single true true Withdraw n = rw add-zero (solve o L (number o n ∷ []) (𝟎 ⊝ v 0) (⊖ v 0) refl)
+  single true false Enter n = solve o L [] (𝟎 ⊝ 𝟎) 𝟎 refl
+  single true false Withdraw n = solve o L [] (𝟎 ⊝ 𝟎) 𝟎 refl
 
-  signed-times : (c : Call) (x y : o.V) → o.times (signed o c x) y ≡ signed o c (o.times x y)
-  signed-times enter x y = refl
-  signed-times withdraw x y = solve o L (x ∷ y ∷ []) ((⊖ v 0) ⊗ v 1) (⊖ (v 0 ⊗ v 1)) refl
+  pub signed-times : (c : Call) (x y : o.V) → o.times (signed o c x) y ≡ signed o c (o.times x y)
+  signed-times Enter x y = refl
+  signed-times Withdraw x y = solve o L (x ∷ y ∷ []) ((⊖ v 0) ⊗ v 1) (⊖ (v 0 ⊗ v 1)) refl
 
   net_single : (l : Line) (a : ℕ) → whole o (net (l ∷ []) a) ≡ cond (took l && eqb l.code a) (signed o l.call (number o l.quantity)) o.nought
-  net_single l a = whole-minus o L (pos (counted enter (l ∷ []) a)) (pos (counted withdraw (l ∷ []) a)) ∙ single (took l) (eqb l.code a) l.call l.quantity
+  net_single l a = whole-minus o L (pos (counted Enter (l ∷ []) a)) (pos (counted Withdraw (l ∷ []) a)) ∙ single (took l) (eqb l.code a) l.call l.quantity
 
   net_more : (l : Line) (log : Log) (a : ℕ) → net (l ∷ log) a ≡ net (l ∷ []) a +ℤ net log a
   net_more l log a = omega (arith, ints)

@@ -11,6 +11,7 @@ use crate::sums::Sums;
 use algebra::code::Code;
 use algebra::field::{Field, field_laws};
 use algebra::refusal::Refusal;
+use std::array;
 
 // A tally that can be compared and written, as often as wanted.
 #[derive(Drop)]
@@ -26,31 +27,19 @@ impl<F: Field> Closed<F> {
         ensures reaches { IfOk result (Reaches F.Ring.ring F.Field.order (element F.Ring F.Field.own) (contents F.Ring self.now.body) (contents F.Ring other.now.body)) }
     {
         let _order = field_laws::<F>();
-        let frame = self.body.frame;
-        let others = other.body.frame;
-        if frame != others {
+        if self.body.frame != other.body.frame {
             return Err(Refusal::Unlike);
         }
-        for k in 0..frame.count() {
-            if !self.body.sums[k].same(other.body.sums[k]) {
-                return Ok(false);
-            }
-        }
-        Ok(true)
+        let mut pairs = self.body.counted().iter().zip(other.body.counted());
+        Ok(pairs.all(|(x, y)| x.same(*y)))
     }
 
     // A tally of a frame in which nothing was moved.
     pub fn blank(frame: Frame) -> Closed<F>
         ensures { Fresh F.Ring frame result.body }
     {
-        let zero = F::zero();
-        let sums = [zero; 96];
         Closed {
-            body: Sums {
-                sums,
-                frame,
-                turnover: 0,
-            },
+            body: Sums::blank(frame),
         }
     }
 
@@ -73,10 +62,10 @@ impl<F: Field> Closed<F> {
         ensures past { 2 * self.now.body.frame.width + self.now.body.frame.spare ≤ k → result.0 ≡ 0 }
     {
         let _order = F::size();
-        if k < self.body.frame.count() {
-            return self.body.sums[k].to_code();
-        }
-        Code(0)
+        self.body
+            .counted()
+            .get(k)
+            .map_or(Code(0), |sum| sum.to_code())
     }
 
     // Replaces all that the tally holds: the sum k becomes the element of the code at k, and zero past the end of the codes.
@@ -86,11 +75,18 @@ impl<F: Field> Closed<F> {
         ensures sums { (k : ℕ) → k < 96 → (contents F.Ring self.new.body).sum k ≡ element F.Ring F.Field.own (code_at codes.now k) }
         ensures held { (k : ℕ) (d : F) → k < 96 → F.Ring.canonical (slice_index_or self.new.body.sums k d) }
     {
-        for k in 0..96 {
-            let code = if k < codes.len() { codes[k] } else { Code(0) };
-            self.body.sums[k] = F::from_code(code);
-        }
-        self.body.frame = frame;
-        self.body.turnover = turnover;
+        self.body = Sums {
+            sums: array::from_fn(|k| element_at(codes, k)),
+            frame,
+            turnover,
+        };
     }
+}
+
+// The element of the code at k, and zero past the end of the codes.
+fn element_at<F: Field>(codes: &[Code], k: usize) -> F
+    ensures means { F.Ring.value result ≡ element F.Ring F.Field.own (code_at codes.now k) }
+    ensures held { F.Ring.canonical result }
+{
+    F::from_code(codes.get(k).copied().unwrap_or(Code(0)))
 }

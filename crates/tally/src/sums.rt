@@ -1,9 +1,70 @@
+ghost use Rattle.std.specs.Prelude.{◌≡◌, ℕ, ◌+◌, ◌<◌, take, IfOk};
+ghost use Rattle.algebra.specs.Refusals.{reply};
+ghost use Rattle.algebra.specs.Rings.{power};
+ghost use Rattle.tally.specs.Contents.{count, answering};
+ghost use Rattle.tally.specs.Bodies.{contents, Fresh};
+
 use crate::frame::Frame;
+use algebra::code::Code;
+use algebra::field::Field;
+use algebra::refusal::Refusal;
 
 // What a tally holds: its sums, of which those of its frame count, its frame, and its turnover.
+// The array has room for the most sums of any frame, because tallies allocate nothing.
 #[derive(Drop)]
 pub struct Sums<F> {
     pub(crate) sums: [F; 96],
     pub(crate) frame: Frame,
     pub(crate) turnover: u32,
+}
+
+impl<F: Field> Sums<F> {
+    // Those of a tally of a frame in which nothing was moved.
+    pub(crate) fn blank(frame: Frame) -> Sums<F>
+        ensures { Fresh F.Ring frame result }
+    {
+        Sums {
+            sums: [F::zero(); 96],
+            frame,
+            turnover: 0,
+        }
+    }
+
+    // The sums that count.
+    pub(crate) fn counted(&self) -> &[F]
+        ensures { result.now ≡ take (count (contents F.Ring self.now)) self.now.sums }
+    {
+        &self.sums[..self.frame.count()]
+    }
+
+    // The turnover after a call that moves a quantity of a code, or why the call is refused.
+    pub(crate) fn admit(&self, code: Code, quantity: u32) -> Result<u32, Refusal>
+        ensures answers { reply result ≡ answering F.Field.order self.now.turnover code.0 quantity }
+        ensures turnover { IfOk result (λ t. t ≡ self.now.turnover + quantity) }
+    {
+        let order = F::size();
+        if code.0 == 0 || code.0 >= order {
+            return Err(Refusal::Code(code.0));
+        }
+        if quantity == 0 {
+            return Err(Refusal::Quantity);
+        }
+        self.turnover
+            .checked_add(quantity)
+            .filter(|after| *after <= (order - 1) / 4)
+            .ok_or(Refusal::Full(self.turnover))
+    }
+
+    // Adds n, n a, n a^2 and so on to the sums that count.
+    pub(crate) fn raise(&mut self, a: F, n: F)
+        ensures frame { (self.new.frame ≡ self.old.frame) × (self.new.turnover ≡ self.old.turnover) }
+        ensures sums { (k : ℕ) → k < count (contents F.Ring self.old) → (contents F.Ring self.new).sum k ≡ F.Ring.ring.plus ((contents F.Ring self.old).sum k) (F.Ring.ring.times (F.Ring.value n) (power F.Ring.ring (F.Ring.value a) k)) }
+    {
+        let count = self.frame.count();
+        let mut term = n;
+        for sum in &mut self.sums[..count] {
+            *sum = sum.add(term);
+            term = term.mul(a);
+        }
+    }
 }
