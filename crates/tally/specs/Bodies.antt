@@ -1,4 +1,4 @@
--- What the body of a tally means.
+-- What a tally holds, as values of the field, and the logs that it has kept.
 use Rattle.std.specs.Prelude.{◌≡◌, ℕ, [], ◌∷◌, ◌++◌, map, slice_index_or}
 use Rattle.algebra.specs.declared.ring.Ring.{Ghosts as RingOf}
 use Rattle.algebra.specs.declared.field.Field.{Ghosts as FieldOf}
@@ -30,10 +30,10 @@ Moves R F call a n before after = Moved R.ring call (element R F a) n (contents 
 abbrev pub Keeps : {S : Type 0} (R : RingOf S) (F : FieldOf S) → Log → Sums S → Type 0
 Keeps R F log b = Kept R.ring F.order (element R F) log (contents R b)
 
--- whatever log the tally had kept, it has now kept that log and the line
-abbrev pub KeepsOn : {S : Type 0} (R : RingOf S) (F : FieldOf S) → Line → (before after : Sums S) → Type 0
-KeepsOn R F l before after = (log : Log) → Keeps R F log before → Keeps R F (log ++ (l ∷ [])) after
+-- whatever log the tally had kept, it has kept that log with the line after it
+abbrev pub Continues : {S : Type 0} (R : RingOf S) (F : FieldOf S) → Line → (before after : Sums S) → Type 0
+Continues R F l before after = (log : Log) → Keeps R F log before → Keeps R F (log ++ (l ∷ [])) after
 
--- the sums are told by the net counts of the log
-abbrev pub Nets : {S : Type 0} (R : RingOf S) (F : FieldOf S) → Log → Sums S → Type 0
-Nets R F log b = Netted R.ring F.order (element R F) log (contents R b)
+-- the sums are those of the net counts of the log
+abbrev pub FollowsNets : {S : Type 0} (R : RingOf S) (F : FieldOf S) → Log → Sums S → Type 0
+FollowsNets R F log b = Netted R.ring F.order (element R F) log (contents R b)

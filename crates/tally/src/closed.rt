@@ -12,6 +12,7 @@ use algebra::code::Code;
 use algebra::field::{Field, field_laws};
 use algebra::refusal::Refusal;
 use std::array;
+use std::marker::Model;
 
 // A tally that can be compared and written, as often as wanted.
 #[derive(Drop)]
@@ -19,12 +20,20 @@ pub struct Closed<F> {
     pub(crate) body: Sums<F>,
 }
 
+impl<F> Model for Closed<F> {
+    ghost use Rattle.tally.specs.declared.sums.Sums.{Sums};
+
+    ghost Value = { Sums F };
+
+    ghost view = { λ c. c.body };
+}
+
 impl<F: Field> Closed<F> {
     // Whether all sums of two tallies of one frame agree. The turnover is not compared.
     pub fn compare(&self, other: &Closed<F>) -> Result<bool, Refusal>
-        ensures answers { reply result ≡ comparing (contents F.Ring self.now.body) (contents F.Ring other.now.body) }
-        ensures compares { IfOk result (λ b. (b ≡ true) ↔ Agree (contents F.Ring self.now.body) (contents F.Ring other.now.body)) }
-        ensures reaches { IfOk result (Reaches F.Ring.ring F.Field.order (element F.Ring F.Field.own) (contents F.Ring self.now.body) (contents F.Ring other.now.body)) }
+        ensures answers { reply result ≡ comparing (contents F.Ring self.now) (contents F.Ring other.now) }
+        ensures compares { IfOk result (λ b. (b ≡ true) ↔ Agree (contents F.Ring self.now) (contents F.Ring other.now)) }
+        ensures reaches { IfOk result (Reaches F.Ring.ring F.Field.order (element F.Ring F.Field.own) (contents F.Ring self.now) (contents F.Ring other.now)) }
     {
         let _order = field_laws::<F>();
         if self.body.frame != other.body.frame {
@@ -36,7 +45,7 @@ impl<F: Field> Closed<F> {
 
     // A tally of a frame in which nothing was moved.
     pub fn blank(frame: Frame) -> Closed<F>
-        ensures { Fresh F.Ring frame result.body }
+        ensures { Fresh F.Ring frame result }
     {
         Closed {
             body: Sums::blank(frame),
@@ -44,13 +53,13 @@ impl<F: Field> Closed<F> {
     }
 
     pub fn frame(&self) -> Frame
-        ensures { result ≡ self.now.body.frame }
+        ensures { result ≡ self.now.frame }
     {
         self.body.frame
     }
 
     pub fn turnover(&self) -> u32
-        ensures { result ≡ self.now.body.turnover }
+        ensures { result ≡ self.now.turnover }
     {
         self.body.turnover
     }
@@ -58,8 +67,8 @@ impl<F: Field> Closed<F> {
     // The code of the sum k; code 0 where the frame has no such sum.
     pub fn sum_code(&self, k: usize) -> Code
         ensures below { result.0 < F.Field.order }
-        ensures means { k < 2 * self.now.body.frame.width + self.now.body.frame.spare → element F.Ring F.Field.own result.0 ≡ (contents F.Ring self.now.body).sum k }
-        ensures past { 2 * self.now.body.frame.width + self.now.body.frame.spare ≤ k → result.0 ≡ 0 }
+        ensures means { k < 2 * self.now.frame.width + self.now.frame.spare → element F.Ring F.Field.own result.0 ≡ (contents F.Ring self.now).sum k }
+        ensures past { 2 * self.now.frame.width + self.now.frame.spare ≤ k → result.0 ≡ 0 }
     {
         let _order = F::size();
         self.body
@@ -70,10 +79,10 @@ impl<F: Field> Closed<F> {
 
     // Replaces all that the tally holds: the sum k becomes the element of the code at k, and zero past the end of the codes.
     pub fn restore(&mut self, frame: Frame, turnover: u32, codes: &[Code])
-        ensures framed { self.new.body.frame ≡ frame }
-        ensures turned { self.new.body.turnover ≡ turnover }
-        ensures sums { (k : ℕ) → k < 96 → (contents F.Ring self.new.body).sum k ≡ element F.Ring F.Field.own (code_at codes.now k) }
-        ensures held { (k : ℕ) (d : F) → k < 96 → F.Ring.canonical (slice_index_or self.new.body.sums k d) }
+        ensures framed { self.new.frame ≡ frame }
+        ensures turned { self.new.turnover ≡ turnover }
+        ensures sums { (k : ℕ) → k < 96 → (contents F.Ring self.new).sum k ≡ element F.Ring F.Field.own (code_at codes.now k) }
+        ensures held { (k : ℕ) (d : F) → k < 96 → F.Ring.canonical (slice_index_or self.new.sums k d) }
     {
         self.body = Sums {
             sums: array::from_fn(|k| element_at(codes, k)),

@@ -8,8 +8,8 @@ use algebra::refusal::Refusal;
 // and s the number of sums more by which it is checked.
 #[derive(Clone, Copy, PartialEq, Eq, Debug)]
 pub struct Frame {
-    pub(crate) width: u32,
-    pub(crate) spare: u32,
+    pub width: u32,
+    pub spare: u32,
     ghost ok: { (1 ≤ width) × (width ≤ 32) × (spare ≤ 32) },
 }
 

@@ -1,21 +1,23 @@
-ghost use Rattle.std.specs.Prelude.{◌≡◌, ℕ, ◌+◌, ◌<◌, take, IfOk};
+ghost use Rattle.std.specs.Prelude.{◌≡◌, ℕ, ◌+◌, ◌<◌, ◌≤◌, length, take, IfOk, MatchResult};
 ghost use Rattle.algebra.specs.Refusals.{reply};
 ghost use Rattle.algebra.specs.Rings.{power};
 ghost use Rattle.tally.specs.Contents.{count, answering};
-ghost use Rattle.tally.specs.Bodies.{contents, Fresh};
+ghost use Rattle.tally.specs.Logs.{line};
+ghost use Rattle.tally.specs.Bodies.{contents, Fresh, Moves, Continues};
 
+use crate::call::Call;
 use crate::frame::Frame;
 use algebra::code::Code;
-use algebra::field::Field;
+use algebra::field::{Field, whole};
 use algebra::refusal::Refusal;
 
 // What a tally holds: its sums, of which those of its frame count, its frame, and its turnover.
 // The array has room for the most sums of any frame, because tallies allocate nothing.
 #[derive(Drop)]
 pub struct Sums<F> {
-    pub(crate) sums: [F; 96],
-    pub(crate) frame: Frame,
-    pub(crate) turnover: u32,
+    pub sums: [F; 96],
+    pub frame: Frame,
+    pub turnover: u32,
 }
 
 impl<F: Field> Sums<F> {
@@ -32,9 +34,24 @@ impl<F: Field> Sums<F> {
 
     // The sums that count.
     pub(crate) fn counted(&self) -> &[F]
-        ensures { result.now ≡ take (count (contents F.Ring self.now)) self.now.sums }
+        ensures front { result.now ≡ take (count (contents F.Ring self.now)) self.now.sums }
+        ensures enough { count (contents F.Ring self.now) ≤ length self.now.sums }
     {
         &self.sums[..self.frame.count()]
+    }
+
+    // Moves a quantity of a code, in or out.
+    pub(crate) fn call(&mut self, call: Call, code: Code, quantity: u32) -> Result<(), Refusal>
+        ensures answers { reply result ≡ answering F.Field.order self.old.turnover code.0 quantity }
+        ensures moves { MatchResult result (λ _. Moves F.Ring F.Field.own call code.0 quantity self.old self.new) (λ _. self.new ≡ self.old) }
+        ensures framed { self.new.frame ≡ self.old.frame }
+        ensures logged { Continues F.Ring F.Field.own (line call code.0 quantity (reply result)) self.old self.new }
+    {
+        let turnover = self.admit(code, quantity)?;
+        let signed = call.signed(whole::<F>(quantity));
+        self.raise(F::from_code(code), signed);
+        self.turnover = turnover;
+        Ok(())
     }
 
     // The turnover after a call that moves a quantity of a code, or why the call is refused.

@@ -1,14 +1,10 @@
-use Rattle.std.proofs.Common.{refl}
-use Rattle.tally.specs.Bodies.{element}
+use Rattle.std.proofs.Common.{sym, subst}
+use Rattle.tally.specs.Bodies.{element, Keeps}
 use Rattle.tally.proofs.Netting.{netted}
 use Rattle.tally.proofs.open.Open.close.Goals as goal
 
-pub returns : goal.returns
-returns g c =
+pub returns-clause-netted : goal.returns-clause-netted
+returns-clause-netted g c log kept =
     let R = g.F.Ring in
     let F = g.F.Field in
-    record {
-      same = refl;
-      logged = λ log kept. kept;
-      netted = λ log kept. netted R.ring g.met.F.Ring.lawful F.order (element R F) log _ kept;
-    }
+    netted R.ring g.met.F.Ring.lawful F.order (element R F) log _ (subst (Keeps R F log) (sym c.self.view_is) kept)

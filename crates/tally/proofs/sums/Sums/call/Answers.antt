@@ -7,7 +7,7 @@ use Rattle.tally.specs.Logs.{line}
 use Rattle.tally.specs.Bodies.{contents, element}
 use Rattle.tally.proofs.Nets.{kept_refused, kept_moved, signed-times}
 use Rattle.tally.proofs.Refusing.{not_taken}
-use Rattle.tally.proofs.open.Open.call.Goals as goal
+use Rattle.tally.proofs.sums.Sums.call.Goals as goal
 
 pub returns-in_err-turnover : goal.returns-in_err-turnover
 returns-in_err-turnover g c =
@@ -31,7 +31,7 @@ returns g c =
     let call = c.args.call in
     let a = c.args.code.0 in
     let n = c.args.quantity in
-    let before = contents R c.args.self.now.body in
+    let before = contents R c.args.self.now in
     let r = c.raise.ensures in
     let moves : Moved o call (element R F a) n before _ = record {
       width = ap (λ f. f.width) r.frame.0;
