@@ -1,5 +1,5 @@
 -- What a log moved, its net counts and its moments.
-use Rattle.std.proofs.Common.{◌≡◌, ℕ, ◌+◌, ◌<◌, ◌≤◌, Bool, true, false, cond, ◌&&◌, ◌||◌, eqb, ltb, leb, ◌≢◌, ◌⊎◌, List, [], ◌∷◌, ◌++◌, map, pos, ◌+ℤ◌, ◌-ℤ◌, ◌≤ℤ◌, sym, refl, ap, ◌∙◌, subst, inl, inr, true≢false, add-zero, add_assoc, zero-add, arith}
+use Rattle.std.proofs.Common.{◌≡◌, ℕ, ◌+◌, ◌<◌, ◌≤◌, Bool, true, false, cond, ◌&&◌, ◌||◌, eqb, ltb, leb, ◌≢◌, ◌⊎◌, List, [], ◌∷◌, ◌++◌, map, pos, ◌+ℤ◌, ◌-ℤ◌, ◌≤ℤ◌, sym, refl, ap, ◌∙◌, subst, inl, inr, add-zero, add_assoc, zero-add, arith}
 use Rattle.std.proofs.lemmas.Int.{ints}
 use Rattle.std.proofs.lemmas.Bool.{cond_both, cond-true, cond-false, cases_Bool, eqb-true, eqb-false, eq-eqb, ne_eqb, leb-false, ltb-false, or_parts}
 use Rattle.algebra.specs.Rings.{Ops, Lawful, power, number}
@@ -46,10 +46,7 @@ answered_push q log l A e = answered_from q 0 log l A (e ∙ ap (λ (u : ℕ). a
 passed : (x y z : Bool) (a t : ℕ)
     → eqb (or_else (cond x (2, a ∷ []) accepted) (or_else (cond y (3, []) accepted) (cond z (4, t ∷ []) accepted))).0 0 ≡ true
     → (x ≡ false) × (y ≡ false) × (z ≡ false)
-passed true y z a t e = absurd (true≢false (sym e))
-passed false true z a t e = absurd (true≢false (sym e))
-passed false false true a t e = absurd (true≢false (sym e))
-passed false false false a t e = (refl, refl, refl)
+passed x y z a t e = grind arith
 
 pub answering-took : (q t a n : ℕ) → eqb (answering q t a n).0 0 ≡ true → (1 ≤ a) × (a < q) × (1 ≤ n) × (t + n ≤ limit q)
 answering-took q t a n e =
