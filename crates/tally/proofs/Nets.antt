@@ -1,9 +1,10 @@
 -- What a log moved, its net counts and its moments.
-use Rattle.std.proofs.Common.{◌≡◌, ℕ, ◌+◌, ◌<◌, ◌≤◌, Bool, true, false, cond, ◌&&◌, ◌||◌, eqb, ltb, leb, ◌≢◌, ◌⊎◌, List, [], ◌∷◌, ◌++◌, map, pos, ◌+ℤ◌, ◌-ℤ◌, ◌≤ℤ◌, sym, refl, ap, ◌∙◌, subst, inl, inr, add-zero, add_assoc, zero-add, arith}
+use Rattle.std.proofs.Common.{◌≡◌, ℕ, ◌+◌, ◌<◌, ◌≤◌, Bool, true, false, cond, ◌&&◌, eqb, ◌≢◌, ◌⊎◌, List, [], ◌∷◌, ◌++◌, map, pos, ◌+ℤ◌, ◌-ℤ◌, ◌≤ℤ◌, sym, refl, ap, ◌∙◌, subst, inl, inr, add-zero, add_assoc, zero-add, arith}
 use Rattle.std.proofs.lemmas.Int.{ints}
-use Rattle.std.proofs.lemmas.Bool.{cond_both, cond-true, cond-false, cases_Bool, eqb-true, eqb-false, eq-eqb, ne_eqb, leb-false, ltb-false, or_parts}
+use Rattle.std.proofs.lemmas.Bool.Decides.{nat_tests}
+use Rattle.std.proofs.lemmas.Bool.{cond_both, cond-true, cond-false, cases_Bool, eq-eqb, ne_eqb}
 use Rattle.algebra.specs.Rings.{Ops, Lawful, power, number}
-use Rattle.algebra.specs.Refusals.{accepted, or_else}
+use Rattle.algebra.specs.Refusals.{accepted}
 use Rattle.algebra.proofs.Solver.{v, 𝟎, ◌⊗◌, ⊖◌, ◌⊝◌, solve}
 use Rattle.roots.specs.Lists.{In, Distinct}
 use Rattle.tally.specs.declared.call.Call.{Call}
@@ -42,19 +43,8 @@ pub answered_push : (q : ℕ) (log : Log) (l : Line) → Answered q 0 log → l.
     → Answered q 0 (log ++ (l ∷ []))
 answered_push q log l A e = answered_from q 0 log l A (e ∙ ap (λ (u : ℕ). answering q u l.code l.quantity) (sym (zero-add (moved log))))
 
--- the tests that an accepted call has passed
-passed : (x y z : Bool) (a t : ℕ)
-    → eqb (or_else (cond x (2, a ∷ []) accepted) (or_else (cond y (3, []) accepted) (cond z (4, t ∷ []) accepted))).0 0 ≡ true
-    → (x ≡ false) × (y ≡ false) × (z ≡ false)
-passed x y z a t e = grind arith
-
 pub answering-took : (q t a n : ℕ) → eqb (answering q t a n).0 0 ≡ true → (1 ≤ a) × (a < q) × (1 ≤ n) × (t + n ≤ limit q)
-answering-took q t a n e =
-    let p = passed (eqb a 0 || leb q a) (eqb n 0) (ltb (limit q) (t + n)) a t e in
-    let r = or_parts (eqb a 0) (leb q a) p.0 in
-    let a0 : a ≡ 0 → ⊥ = eqb-false a 0 r.0 in
-    let n0 : n ≡ 0 → ⊥ = eqb-false n 0 p.1 in
-    (omega arith, leb-false q a r.1, omega arith, ltb-false (limit q) (t + n) p.2)
+answering-took q t a n e = grind (arith, nat_tests)
 
 -- an accepted line that is answered as defined
 line-took : (q t : ℕ) (l : Line) → l.answer ≡ answering q t l.code l.quantity → took l ≡ true
@@ -72,11 +62,7 @@ moved-limit q log A = let h = moved-limit_from q 0 log (omega arith) A in omega 
 
 shares : (b e : Bool) (c : Call) (n : ℕ)
     → cond (b && (same_call Enter c && e)) n 0 + cond (b && (same_call Withdraw c && e)) n 0 ≤ cond b n 0
-shares false e c n = omega arith
-shares true true Enter n = omega arith
-shares true true Withdraw n = omega arith
-shares true false Enter n = omega arith
-shares true false Withdraw n = omega arith
+shares b e c n = grind arith
 
 counted-moved : (log : Log) (a : ℕ) → counted Enter log a + counted Withdraw log a ≤ moved log
 counted-moved [] a = omega arith
@@ -102,13 +88,7 @@ pub took_code : (q : ℕ) (log : Log) → Answered q 0 log → (l : Line) → In
 took_code q log A l i k = took_code_from q 0 log A l i k
 
 share_absent : (c : Call) (l : Line) (a : ℕ) → (took l ≡ true → l.code ≢ a) → share c l a ≡ 0
-share_absent c l a h = go (took l) (same_call c l.call) (eqb l.code a) (λ k e. h k (eqb-true l.code a e))
-  where
-    go : (b s e : Bool) → (b ≡ true → e ≡ true → ⊥) → cond (b && (s && e)) l.quantity 0 ≡ 0
-    go false s e n = refl
-    go true false e n = refl
-    go true true true n = absurd (n refl refl)
-    go true true false n = refl
+share_absent c l a h = grind (arith, nat_tests)
 
 counted_absent : (c : Call) (log : Log) (a : ℕ) → ((l : Line) → In l log → took l ≡ true → l.code ≢ a) → counted c log a ≡ 0
 counted_absent c [] a h = refl
