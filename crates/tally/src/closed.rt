@@ -1,13 +1,13 @@
 ghost use Rattle.std.specs.Prelude.{◌≡◌, ℕ, ◌+◌, ◌*◌, ◌<◌, ◌≤◌, true, ◌↔◌, slice_index_or, IfOk};
 ghost use Rattle.algebra.specs.declared.code.Code.{Code};
 ghost use Rattle.algebra.specs.Refusals.{reply};
-ghost use Rattle.tally.specs.Contents.{comparing, Agree};
+ghost use Rattle.tally.specs.Contents.{count, comparing, Agree};
 ghost use Rattle.tally.specs.Bodies.{contents, element, Fresh};
 ghost use Rattle.tally.specs.Access.{code_at};
 ghost use Rattle.tally.specs.Reach.{Reaches};
 
 use crate::frame::Frame;
-use crate::sums::Sums;
+use crate::sums::{MOST, Sums};
 use algebra::code::Code;
 use algebra::field::{Field, field_laws};
 use algebra::refusal::Refusal;
@@ -67,8 +67,8 @@ impl<F: Field> Closed<F> {
     // The code of the sum k; code 0 where the frame has no such sum.
     pub fn sum_code(&self, k: usize) -> Code
         ensures below { result.0 < F.Field.order }
-        ensures means { k < 2 * self.now.frame.width + self.now.frame.spare → element F.Ring F.Field.own result.0 ≡ (contents F.Ring self.now).sum k }
-        ensures past { 2 * self.now.frame.width + self.now.frame.spare ≤ k → result.0 ≡ 0 }
+        ensures means { k < count (contents F.Ring self.now) → element F.Ring F.Field.own result.0 ≡ (contents F.Ring self.now).sum k }
+        ensures past { count (contents F.Ring self.now) ≤ k → result.0 ≡ 0 }
     {
         let _order = F::size();
         self.body
@@ -81,8 +81,8 @@ impl<F: Field> Closed<F> {
     pub fn restore(&mut self, frame: Frame, turnover: u32, codes: &[Code])
         ensures framed { self.new.frame ≡ frame }
         ensures turned { self.new.turnover ≡ turnover }
-        ensures sums { (k : ℕ) → k < 96 → (contents F.Ring self.new).sum k ≡ element F.Ring F.Field.own (code_at codes.now k) }
-        ensures held { (k : ℕ) (d : F) → k < 96 → F.Ring.canonical (slice_index_or self.new.sums k d) }
+        ensures sums { (k : ℕ) → k < MOST → (contents F.Ring self.new).sum k ≡ element F.Ring F.Field.own (code_at codes.now k) }
+        ensures held { (k : ℕ) (d : F) → k < MOST → F.Ring.canonical (slice_index_or self.new.sums k d) }
     {
         self.body = Sums {
             sums: array::from_fn(|k| element_at(codes, k)),

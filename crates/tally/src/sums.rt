@@ -11,11 +11,14 @@ use algebra::code::Code;
 use algebra::field::{Field, whole};
 use algebra::refusal::Refusal;
 
+// The most sums that a frame has.
+pub const MOST: usize = 96;
+
 // What a tally holds: its sums, of which those of its frame count, its frame, and its turnover.
-// The array has room for the most sums of any frame, because tallies allocate nothing.
+// The array has room for the sums of any frame, because tallies allocate nothing.
 #[derive(Drop)]
 pub struct Sums<F> {
-    pub sums: [F; 96],
+    pub sums: [F; MOST],
     pub frame: Frame,
     pub turnover: u32,
 }
@@ -26,7 +29,7 @@ impl<F: Field> Sums<F> {
         ensures { Fresh F.Ring frame result }
     {
         Sums {
-            sums: [F::zero(); 96],
+            sums: [F::zero(); MOST],
             frame,
             turnover: 0,
         }
