@@ -1,5 +1,4 @@
-ghost use Rattle.std.specs.Prelude.{◌≡◌, ℕ, ◌+◌, ◌*◌, ◌<◌, ◌≤◌, true, ◌↔◌, slice_index_or, IfOk};
-ghost use Rattle.algebra.specs.declared.code.Code.{Code};
+ghost use Rattle.std.specs.Prelude.{◌≡◌, ℕ, ◌<◌, ◌≤◌, true, ◌↔◌, slice_index_or, IfOk};
 ghost use Rattle.algebra.specs.Refusals.{reply};
 ghost use Rattle.tally.specs.Contents.{count, comparing, Agree};
 ghost use Rattle.tally.specs.Bodies.{contents, element, Fresh};
