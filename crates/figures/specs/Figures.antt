@@ -15,7 +15,8 @@ use Rattle.roots.specs.Tangents.{tangent}
 use Rattle.roots.specs.Codes.{element, polynomial}
 use Rattle.roots.specs.Roots.{Root, Simple, Lift, Trials}
 use Rattle.algebra.specs.Refusals.{accepted}
-use Rattle.tally.specs.Contents.{enter, answering}
+use Rattle.tally.specs.declared.call.Call.TheVariants.{Enter}
+use Rattle.tally.specs.Contents.{answering}
 use Rattle.tally.specs.Logs.{Line, Log, line, Answered, moved, net, moment}
 
 -- what the implementations of the ring and of the field say of the elements
@@ -48,7 +49,7 @@ seventeenth = 14 ∷ (replicate 16 0 ++ (1 ∷ []))
 
 -- n of the code a entered, and accepted
 abbrev pub entered : (a n : ℕ) → Line
-entered a n = line enter a n accepted
+entered a n = line Enter a n accepted
 
 -- the log is answered as defined and moved t, and the sums from S_0 on of a tally that has kept it have these codes
 pub record LogFigure (log : Log) (t : ℕ) (sums : List ℕ) : Type 0 where

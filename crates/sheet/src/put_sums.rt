@@ -8,8 +8,8 @@ use tally::closed::Closed;
 
 // Puts the codes of the sums from place 24 on.
 pub(crate) fn put_sums<F: Field>(out: &mut [u8], tally: &Closed<F>)
-    requires { 24 + 4 * (2 * tally.now.body.frame.width + tally.now.body.frame.spare) ≤ length out.old }
-    ensures { SumsPut F.Field.order (element F.Ring F.Field.own) (contents F.Ring tally.now.body) out.old out.new (2 * tally.now.body.frame.width + tally.now.body.frame.spare) }
+    requires { 24 + 4 * (2 * tally.now.frame.width + tally.now.frame.spare) ≤ length out.old }
+    ensures { SumsPut F.Field.order (element F.Ring F.Field.own) (contents F.Ring tally.now) out.old out.new (2 * tally.now.frame.width + tally.now.frame.spare) }
 {
     let count = tally.frame().count();
     for k in 0..count {

@@ -19,9 +19,9 @@ pub fn read<'a, F: Field>(
     bytes: &'a [u8],
 ) -> Result<(&'a [u8], &'a [u8]), SheetFault>
     ensures answers { sheet_reply result ≡ reading F.Field.order bytes.now }
-    ensures taken { MatchResult result (λ p. Taken F.Field.order (element F.Ring F.Field.own) bytes.now p.0.now p.1.now (contents F.Ring tally.new.body)) (λ _. tally.new ≡ tally.old) }
-    ensures back { ReadsBack F.Field.order (element F.Ring F.Field.own) bytes.now (λ p. p.0.now) (λ p. p.1.now) result (contents F.Ring tally.new.body) }
-    ensures logged { ReadsLog F.Ring.ring F.Field.order (element F.Ring F.Field.own) bytes.now result (contents F.Ring tally.new.body) }
+    ensures taken { MatchResult result (λ p. Taken F.Field.order (element F.Ring F.Field.own) bytes.now p.0.now p.1.now (contents F.Ring tally.new)) (λ _. tally.new ≡ tally.old) }
+    ensures back { ReadsBack F.Field.order (element F.Ring F.Field.own) bytes.now (λ p. p.0.now) (λ p. p.1.now) result (contents F.Ring tally.new) }
+    ensures logged { ReadsLog F.Ring.ring F.Field.order (element F.Ring F.Field.own) bytes.now result (contents F.Ring tally.new) }
 {
     let order = F::size();
     let head = read_frame(bytes, order)?;

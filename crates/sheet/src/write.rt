@@ -14,9 +14,9 @@ use tally::closed::Closed;
 
 // Writes the sheet of a tally and a job name to the start of `out`, and answers its length.
 pub fn write<F: Field>(tally: &Closed<F>, name: &[u8], out: &mut [u8]) -> Result<usize, Refusal>
-    ensures answers { reply result ≡ writing (count (contents F.Ring tally.now.body)) (length out.old) name.now }
-    ensures written { MatchResult result (Written F.Field.order (element F.Ring F.Field.own) (contents F.Ring tally.now.body) name.now out.old out.new) (λ _. out.new ≡ out.old) }
-    ensures again { WritesAgain F.Field.order (element F.Ring F.Field.own) (contents F.Ring tally.now.body) name.now out.old out.new result }
+    ensures answers { reply result ≡ writing (count (contents F.Ring tally.now)) (length out.old) name.now }
+    ensures written { MatchResult result (Written F.Field.order (element F.Ring F.Field.own) (contents F.Ring tally.now) name.now out.old out.new) (λ _. out.new ≡ out.old) }
+    ensures again { WritesAgain F.Field.order (element F.Ring F.Field.own) (contents F.Ring tally.now) name.now out.old out.new result }
 {
     check_name(name)?;
     let order = field_laws::<F>();

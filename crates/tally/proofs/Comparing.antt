@@ -1,6 +1,8 @@
 -- How far comparing the sums of two tallies reaches.
 use Rattle.std.proofs.Common.{◌≡◌, ℕ, zero, suc, ◌<◌, ◌≤◌, Bool, true, ◌≢◌, ◌↔◌, List, [], ◌∷◌, map, length, ℤ, pos, ◌-ℤ◌, nat_abs, ◌≤ℤ◌, sym, refl, ap, ◌∙◌, subst, inl, inr, arith}
 use lib.IntN.{ℤ_discrete}
+use lib.ListN.{length-map}
+use Rattle.std.proofs.lemmas.Simd.{map-map}
 use Rattle.std.proofs.lemmas.Int.{ints}
 use Rattle.std.proofs.lemmas.Bool.{cases_eq}
 use Rattle.algebra.specs.Rings.{Ops, Lawful}
@@ -34,14 +36,6 @@ in_below (suc n) c h = elim (cases_eq c n) [ inl e ↦ inl e | inr d ↦ inr (in
 below_distinct : (n : ℕ) → Distinct (below n)
 below_distinct zero = tt
 below_distinct (suc n) = (λ i. (let h = below_in n n i in omega arith), below_distinct n)
-
-weighing-length : (o : Ops) (at f : ℕ → o.V) (cs : List ℕ) → length (weighing o at f cs) ≡ length cs
-weighing-length o at f [] = refl
-weighing-length o at f (c ∷ cs) = ap suc (weighing-length o at f cs)
-
-weighing_firsts : (o : Ops) (at f : ℕ → o.V) (cs : List ℕ) → map first (weighing o at f cs) ≡ map at cs
-weighing_firsts o at f [] = refl
-weighing_firsts o at f (c ∷ cs) = ap (λ t. at c ∷ t) (weighing_firsts o at f cs)
 
 no_difference : (x y : ℤ) → x ≡ y → x -ℤ y ≡ pos 0
 no_difference x y e = omega (arith, ints)
@@ -95,13 +89,13 @@ module _ (o : Ops) (L : Lawful o) (q M m : ℕ) (at : ℕ → o.V) (z : o.V) (F 
       (independent o L F.invertible (weighing o at (gap o l r) (a ∷ others)) distinct none (at a, gap o l r a) (inl refl)))
     where
       distinct : Distinct (map first (weighing o at (gap o l r) (a ∷ others)))
-      distinct = subst (λ (x : List o.V). Distinct x) (sym (weighing_firsts o at (gap o l r) (a ∷ others)))
+      distinct = subst (λ (x : List o.V). Distinct x) (sym (map-map {B = o.V × o.V} first (λ c. (at c, gap o l r c)) (a ∷ others)))
           (distinct_map at (a ∷ others) (λ b c i j. F.coded.once b c ((d.exactly b).0 i).1 ((d.exactly c).0 j).1) (ascending_distinct (a ∷ others) d.ascending))
 
       none : (k : ℕ) → k < length (weighing o at (gap o l r) (a ∷ others)) → weighted_sum o (weighing o at (gap o l r) (a ∷ others)) k ≡ o.nought
       none k b = sym (difference o L at q l r A B (a ∷ others) d k)
           ∙ solve₁ o L (moment o at l k ∷ moment o at r k ∷ []) (v 0 ⊝ v 1) 𝟎 𝟏 (v 0) (v 1)
-          (same k (omega (arith, weighing-length o at (gap o l r) (a ∷ others)))) refl
+          (same k (omega (arith, length-map {B = o.V × o.V} (a ∷ others) (λ c. (at c, gap o l r c))))) refl
 
   pub reaches : (s t : Contents o.V) (b : Bool) → count t ≡ count s → (b ≡ true) ↔ Agree s t → Reaches o q at s t b
   reaches s t b w both l r K J cs d h = (

@@ -1,9 +1,8 @@
 pub mod Steps
-pub mod Freshness
 pub mod Refusing
 pub mod PowerSums
 pub mod Wholes
 pub mod Nets
-pub mod Netting
+pub mod Agreeing
 pub mod Comparing
 pub mod Restoring

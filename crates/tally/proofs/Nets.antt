@@ -1,12 +1,15 @@
 -- What a log moved, its net counts and its moments.
-use Rattle.std.proofs.Common.{◌≡◌, ℕ, ◌+◌, ◌<◌, ◌≤◌, Bool, true, false, cond, ◌&&◌, ◌||◌, eqb, ltb, leb, ◌≢◌, ◌⊎◌, List, [], ◌∷◌, ◌++◌, map, pos, ◌+ℤ◌, ◌-ℤ◌, ◌≤ℤ◌, sym, refl, ap, ◌∙◌, subst, inl, inr, true≢false, add-zero, add_assoc, zero-add, arith}
+use Rattle.std.proofs.Common.{◌≡◌, ℕ, ◌+◌, ◌<◌, ◌≤◌, Bool, true, false, cond, ◌&&◌, eqb, ◌≢◌, ◌⊎◌, List, [], ◌∷◌, ◌++◌, map, pos, ◌+ℤ◌, ◌-ℤ◌, ◌≤ℤ◌, sym, refl, ap, ◌∙◌, subst, inl, inr, add-zero, add_assoc, zero-add, arith}
 use Rattle.std.proofs.lemmas.Int.{ints}
-use Rattle.std.proofs.lemmas.Bool.{cond_both, cond-true, cond-false, cases_Bool, eqb-true, eqb-false, eq-eqb, ne_eqb, leb-false, ltb-false, or_parts}
+use Rattle.std.proofs.lemmas.Bool.Decides.{nat_tests}
+use Rattle.std.proofs.lemmas.Bool.{cond_both, cond-true, cond-false, cases_Bool, eq-eqb, ne_eqb}
 use Rattle.algebra.specs.Rings.{Ops, Lawful, power, number}
-use Rattle.algebra.specs.Refusals.{accepted, or_else}
+use Rattle.algebra.specs.Refusals.{accepted}
 use Rattle.algebra.proofs.Solver.{v, 𝟎, ◌⊗◌, ⊖◌, ◌⊝◌, solve}
 use Rattle.roots.specs.Lists.{In, Distinct}
-use Rattle.tally.specs.Contents.{Call, enter, withdraw, Contents, count, signed, limit, answering, Moved}
+use Rattle.tally.specs.declared.call.Call.{Call}
+use Rattle.tally.specs.declared.call.Call.TheVariants.{Enter, Withdraw}
+use Rattle.tally.specs.Contents.{Contents, count, signed, limit, answering, Moved}
 use Rattle.tally.specs.Logs.{Line, Log, line, took, moved, Answered, same_call, counted, net, moment, Kept}
 use Rattle.tally.specs.Nets.{weighted_sum}
 use Rattle.tally.proofs.PowerSums.{weighing, weighted_same, weighted-nought, weighted-plus, weighted_one}
@@ -40,22 +43,8 @@ pub answered_push : (q : ℕ) (log : Log) (l : Line) → Answered q 0 log → l.
     → Answered q 0 (log ++ (l ∷ []))
 answered_push q log l A e = answered_from q 0 log l A (e ∙ ap (λ (u : ℕ). answering q u l.code l.quantity) (sym (zero-add (moved log))))
 
--- the tests that an accepted call has passed
-passed : (x y z : Bool) (a t : ℕ)
-    → eqb (or_else (cond x (2, a ∷ []) accepted) (or_else (cond y (3, []) accepted) (cond z (4, t ∷ []) accepted))).0 0 ≡ true
-    → (x ≡ false) × (y ≡ false) × (z ≡ false)
-passed true y z a t e = absurd (true≢false (sym e))
-passed false true z a t e = absurd (true≢false (sym e))
-passed false false true a t e = absurd (true≢false (sym e))
-passed false false false a t e = (refl, refl, refl)
-
 pub answering-took : (q t a n : ℕ) → eqb (answering q t a n).0 0 ≡ true → (1 ≤ a) × (a < q) × (1 ≤ n) × (t + n ≤ limit q)
-answering-took q t a n e =
-    let p = passed (eqb a 0 || leb q a) (eqb n 0) (ltb (limit q) (t + n)) a t e in
-    let r = or_parts (eqb a 0) (leb q a) p.0 in
-    let a0 : a ≡ 0 → ⊥ = eqb-false a 0 r.0 in
-    let n0 : n ≡ 0 → ⊥ = eqb-false n 0 p.1 in
-    (omega arith, leb-false q a r.1, omega arith, ltb-false (limit q) (t + n) p.2)
+answering-took q t a n e = grind (arith, nat_tests)
 
 -- an accepted line that is answered as defined
 line-took : (q t : ℕ) (l : Line) → l.answer ≡ answering q t l.code l.quantity → took l ≡ true
@@ -72,18 +61,14 @@ pub moved-limit : (q : ℕ) (log : Log) → Answered q 0 log → moved log ≤ l
 moved-limit q log A = let h = moved-limit_from q 0 log (omega arith) A in omega arith
 
 shares : (b e : Bool) (c : Call) (n : ℕ)
-    → cond (b && (same_call enter c && e)) n 0 + cond (b && (same_call withdraw c && e)) n 0 ≤ cond b n 0
-shares false e c n = omega arith
-shares true true enter n = omega arith
-shares true true withdraw n = omega arith
-shares true false enter n = omega arith
-shares true false withdraw n = omega arith
+    → cond (b && (same_call Enter c && e)) n 0 + cond (b && (same_call Withdraw c && e)) n 0 ≤ cond b n 0
+shares b e c n = grind arith
 
-counted-moved : (log : Log) (a : ℕ) → counted enter log a + counted withdraw log a ≤ moved log
+counted-moved : (log : Log) (a : ℕ) → counted Enter log a + counted Withdraw log a ≤ moved log
 counted-moved [] a = omega arith
 counted-moved (l ∷ log) a = let h = counted-moved log a in let s = shares (took l) (eqb l.code a) l.call l.quantity in omega arith
 
-pub net_bound : (q : ℕ) (log : Log) → Answered q 0 log → (a : ℕ) → counted enter log a + counted withdraw log a ≤ limit q
+pub net_bound : (q : ℕ) (log : Log) → Answered q 0 log → (a : ℕ) → counted Enter log a + counted Withdraw log a ≤ limit q
 net_bound q log A a = omega (arith, counted-moved log a, moved-limit q log A)
 
 pub net_low : (q : ℕ) (log : Log) → Answered q 0 log → (a : ℕ) → (pos 0 -ℤ pos (limit q)) ≤ℤ net log a
@@ -103,13 +88,7 @@ pub took_code : (q : ℕ) (log : Log) → Answered q 0 log → (l : Line) → In
 took_code q log A l i k = took_code_from q 0 log A l i k
 
 share_absent : (c : Call) (l : Line) (a : ℕ) → (took l ≡ true → l.code ≢ a) → share c l a ≡ 0
-share_absent c l a h = go (took l) (same_call c l.call) (eqb l.code a) (λ k e. h k (eqb-true l.code a e))
-  where
-    go : (b s e : Bool) → (b ≡ true → e ≡ true → ⊥) → cond (b && (s && e)) l.quantity 0 ≡ 0
-    go false s e n = refl
-    go true false e n = refl
-    go true true true n = absurd (n refl refl)
-    go true true false n = refl
+share_absent c l a h = grind (arith, nat_tests)
 
 counted_absent : (c : Call) (log : Log) (a : ℕ) → ((l : Line) → In l log → took l ≡ true → l.code ≢ a) → counted c log a ≡ 0
 counted_absent c [] a h = refl
@@ -119,7 +98,7 @@ counted_absent c (l ∷ log) a h =
 
 -- a code of no accepted line
 pub net_absent : (log : Log) (a : ℕ) → ((l : Line) → In l log → took l ≡ true → l.code ≢ a) → net log a ≡ pos 0
-net_absent log a h = let e = counted_absent enter log a h in let w = counted_absent withdraw log a h in omega (arith, ints)
+net_absent log a h = let e = counted_absent Enter log a h in let w = counted_absent Withdraw log a h in omega (arith, ints)
 
 pub net_outside : (q : ℕ) (log : Log) → Answered q 0 log → (a : ℕ) → (a ≡ 0) ⊎ (q ≤ a) → net log a ≡ pos 0
 net_outside q log A a out = net_absent log a (λ l i k e. (let t = took_code q log A l i k in elim out [ inl z ↦ omega arith | inr z ↦ omega arith ]))
@@ -128,9 +107,6 @@ module _ (o : Ops) (L : Lawful o) (at : ℕ → o.V) where
   pub moment_push : (log : Log) (l : Line) (k : ℕ) → moment o at (log ++ (l ∷ [])) k ≡ o.plus (moment o at log k) (part o at l k)
   moment_push [] l k = L.plus_comm (part o at l k) o.nought
   moment_push (x ∷ log) l k = ap (o.plus (part o at x k)) (moment_push log l k) ∙ sym (L.plus_assoc (part o at x k) (moment o at log k) (part o at l k))
-
-  pub kept_none : (q : ℕ) (s : Contents o.V) → s.turnover ≡ 0 → ((k : ℕ) → k < count s → s.sum k ≡ o.nought) → Kept o q at [] s
-  kept_none q s e h = record { answered = tt; turnover = e; sums = h }
 
   -- a refused line changes nothing
   pub kept_refused : (q : ℕ) (log : Log) (s : Contents o.V) (l : Line) → Kept o q at log s
@@ -157,20 +133,20 @@ module _ (o : Ops) (L : Lawful o) (at : ℕ → o.V) where
 
   -- the weight of one line at a code
   single : (b e : Bool) (c : Call) (n : ℕ)
-      → o.plus (number o (cond (b && (same_call enter c && e)) n 0 + 0)) (o.minus (number o (cond (b && (same_call withdraw c && e)) n 0 + 0)))
+      → o.plus (number o (cond (b && (same_call Enter c && e)) n 0 + 0)) (o.minus (number o (cond (b && (same_call Withdraw c && e)) n 0 + 0)))
       ≡ cond (b && e) (signed o c (number o n)) o.nought
   single false e c n = solve o L [] (𝟎 ⊝ 𝟎) 𝟎 refl
-  single true true enter n = rw add-zero (solve o L (number o n ∷ []) (v 0 ⊝ 𝟎) (v 0) refl)
-  single true true withdraw n = rw add-zero (solve o L (number o n ∷ []) (𝟎 ⊝ v 0) (⊖ v 0) refl)
-  single true false enter n = solve o L [] (𝟎 ⊝ 𝟎) 𝟎 refl
-  single true false withdraw n = solve o L [] (𝟎 ⊝ 𝟎) 𝟎 refl
+  single true true Enter n = rw add-zero (solve o L (number o n ∷ []) (v 0 ⊝ 𝟎) (v 0) refl)
+  single true true Withdraw n = rw add-zero (solve o L (number o n ∷ []) (𝟎 ⊝ v 0) (⊖ v 0) refl)
+  single true false Enter n = solve o L [] (𝟎 ⊝ 𝟎) 𝟎 refl
+  single true false Withdraw n = solve o L [] (𝟎 ⊝ 𝟎) 𝟎 refl
 
-  signed-times : (c : Call) (x y : o.V) → o.times (signed o c x) y ≡ signed o c (o.times x y)
-  signed-times enter x y = refl
-  signed-times withdraw x y = solve o L (x ∷ y ∷ []) ((⊖ v 0) ⊗ v 1) (⊖ (v 0 ⊗ v 1)) refl
+  pub signed-times : (c : Call) (x y : o.V) → o.times (signed o c x) y ≡ signed o c (o.times x y)
+  signed-times Enter x y = refl
+  signed-times Withdraw x y = solve o L (x ∷ y ∷ []) ((⊖ v 0) ⊗ v 1) (⊖ (v 0 ⊗ v 1)) refl
 
   net_single : (l : Line) (a : ℕ) → whole o (net (l ∷ []) a) ≡ cond (took l && eqb l.code a) (signed o l.call (number o l.quantity)) o.nought
-  net_single l a = whole-minus o L (pos (counted enter (l ∷ []) a)) (pos (counted withdraw (l ∷ []) a)) ∙ single (took l) (eqb l.code a) l.call l.quantity
+  net_single l a = whole-minus o L (pos (counted Enter (l ∷ []) a)) (pos (counted Withdraw (l ∷ []) a)) ∙ single (took l) (eqb l.code a) l.call l.quantity
 
   net_more : (l : Line) (log : Log) (a : ℕ) → net (l ∷ log) a ≡ net (l ∷ []) a +ℤ net log a
   net_more l log a = omega (arith, ints)

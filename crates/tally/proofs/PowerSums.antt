@@ -1,5 +1,7 @@
 -- Weighted sums of the powers of distinct elements: where as many as there are elements vanish, every weight does.
 use Rattle.std.proofs.Common.{◌≡◌, ℕ, zero, suc, ◌<◌, true, false, cond, eqb, ◌≢◌, List, [], ◌∷◌, map, length, sym, refl, ap, ◌∙◌, subst, inl, inr, arith}
+use lib.ListN.{length-map}
+use Rattle.std.proofs.lemmas.Simd.{map-map}
 use Rattle.std.proofs.lemmas.Bool.{cond_both, cond-true, cond-false, eqb-false, eq-eqb, ne_eqb}
 use Rattle.algebra.specs.Rings.{Ops, Lawful, power}
 use Rattle.algebra.specs.Fields.{Invertible}
@@ -25,14 +27,6 @@ weighing o at f cs = map (λ c. (at c, f c)) cs
 abbrev shift : (o : Ops) → o.V → o.V × o.V → o.V × o.V
 shift o a p = (p.0, o.times p.1 (o.plus p.0 (o.minus a)))
 
-shift_firsts : (o : Ops) (a : o.V) (ys : List (o.V × o.V)) → map first (map (shift o a) ys) ≡ map first ys
-shift_firsts o a [] = refl
-shift_firsts o a (y ∷ ys) = ap (λ t. y.0 ∷ t) (shift_firsts o a ys)
-
-shift-length : (o : Ops) (a : o.V) (ys : List (o.V × o.V)) → length (map (shift o a) ys) ≡ length ys
-shift-length o a [] = refl
-shift-length o a (y ∷ ys) = ap suc (shift-length o a ys)
-
 module _ (o : Ops) (L : Lawful o) where
   shift-sum : (a : o.V) (ys : List (o.V × o.V)) (k : ℕ)
       → weighted_sum o (map (shift o a) ys) k ≡ o.plus (weighted_sum o ys (suc k)) (o.minus (o.times a (weighted_sum o ys k)))
@@ -52,7 +46,7 @@ module _ (o : Ops) (L : Lawful o) where
   shift_none : (x : o.V × o.V) (ys : List (o.V × o.V)) → ((k : ℕ) → k < suc (length ys) → weighted_sum o (x ∷ ys) k ≡ o.nought)
       → (k : ℕ) → k < length (map (shift o x.0) ys) → weighted_sum o (map (shift o x.0) ys) k ≡ o.nought
   shift_none x ys h k l =
-      let m : k < length ys = omega (arith, shift-length o x.0 ys) in
+      let m : k < length ys = omega (arith, length-map ys (shift o x.0)) in
       shift-sum x.0 ys k ∙ solve₂ o L
       (x.0 ∷ x.1 ∷ power o x.0 k ∷ weighted_sum o ys (suc k) ∷ weighted_sum o ys k ∷ [])
       (v 3 ⊝ v 0 ⊗ v 4) 𝟎
@@ -81,8 +75,8 @@ module _ (o : Ops) (L : Lawful o) (inv : Invertible o) where
   independent_at (suc n) [] e D h p i = absurd i
   independent_at (suc n) (x ∷ ys) e D h p i =
       let rest : (p : o.V × o.V) → In p ys → p.1 ≡ o.nought =
-      unshifted x.0 ys D.0 (independent_at n (map (shift o x.0) ys) (omega (arith, shift-length o x.0 ys))
-      (subst (λ (l : List o.V). Distinct l) (sym (shift_firsts o x.0 ys)) D.1) (shift_none o L x ys h)) in
+      unshifted x.0 ys D.0 (independent_at n (map (shift o x.0) ys) (omega (arith, length-map ys (shift o x.0)))
+      (subst (λ (l : List o.V). Distinct l) (sym (map-map first (shift o x.0) ys)) D.1) (shift_none o L x ys h)) in
       elim i [ inl g ↦ ap (λ t. t.1) g ∙ lone o L x ys (h 0 (omega arith)) rest | inr j ↦ rest p j ]
 
   pub independent : (xs : List (o.V × o.V)) → Distinct (map first xs)

@@ -1,13 +1,16 @@
--- A loop that writes one place after another.
-use Rattle.std.proofs.Common.{◌≡◌, ℕ, ◌+◌, ◌<◌, ◌≢◌, List, map, length, get_or, set, ap, ◌∙◌, arith, get_or-set_other, get_or-set_same, below_more}
-use lib.ListN.{length-map}
-use Rattle.std.proofs.lemmas.List.{map-set}
+-- An array that is made by a closure which its calls leave as it was.
+use Rattle.std.proofs.Common.{◌≡◌, ℕ, zero, suc, ◌+◌, ◌<◌, ◌≤◌, List, get_or, sym, subst, inl, inr, arith}
+use Rattle.std.proofs.lemmas.Bool.{cases_eq}
+use Rattle.std.specs.Array.{IsFromFnResultFrom}
+use Rattle.std.specs.Fn.{Called}
+use denote.Param.Members.{Mut}
 
-pub mapped_more : {S V : Type 0} (value : S → V) (z : V) (f : ℕ → V) (xs : List S) (i : ℕ) (x : S) → i < length xs → value x ≡ f i
-    → ((k : ℕ) → k < i → get_or (map value xs) k z ≡ f k) → (k : ℕ) → k < i + 1 → get_or (map value (set xs i x)) k z ≡ f k
-mapped_more value z f xs i x inside here before k h =
-    ap (λ l. get_or l k z) (map-set value xs i x)
-    ∙ below_more (λ j. get_or (set (map value xs) i (value x)) j z ≡ f j) i
-    (λ j lt. let ne : j ≢ i = omega arith in get_or-set_other (map value xs) i j (value x) z ne ∙ before j lt)
-    (get_or-set_same (map value xs) i (value x) z (omega (arith, length-map xs value)) ∙ here)
-    k h
+module _ {F B : Type 0} (g : Mut F (ℕ × Unit {0}) B) (P : ℕ → B → Type 0) (f : F) (each : (i : ℕ) (y : B) (q : F) → Called g f (i, tt) y q → (q ≡ f) × P i y) (ys : List B) where
+  pub made_at : (i n : ℕ) → IsFromFnResultFrom g f ys i n → (k : ℕ) (d : B) → i ≤ k → k < i + n → P k (get_or ys k d)
+  made_at i zero r k d l h = absurd (omega arith)
+  made_at i (suc n) (q, y, here, called, rest) k d l h =
+      let e = each i y q called in
+      elim (cases_eq k i) [
+        | inl same ↦ subst (λ j. P j (get_or ys j d)) (sym same) (subst (P i) (sym (here.1 d)) e.1)
+        | inr other ↦ made_at (i + 1) n (subst (λ p. IsFromFnResultFrom g p ys (i + 1) n) e.0 rest) k d (omega arith) (omega arith)
+      ]

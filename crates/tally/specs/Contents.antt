@@ -2,11 +2,8 @@
 use Rattle.std.specs.Prelude.{◌≡◌, ℕ, ◌+◌, ◌-◌, ◌*◌, ◌/◌, ◌<◌, cond, ◌&&◌, ◌||◌, List, [], ◌∷◌, ◌==◌, nat_le, nat_lt}
 use Rattle.algebra.specs.Rings.{Ops, power, number}
 use Rattle.algebra.specs.Refusals.{accepted, or_else}
-
--- the two calls that move a quantity of a code
-pub data Call : Type 0 where
-  enter : Call
-  withdraw : Call
+use Rattle.tally.specs.declared.call.Call.{Call}
+use Rattle.tally.specs.declared.call.Call.TheVariants.{Enter, Withdraw}
 
 -- the sums S_0, S_1 and so on as values of the field; 2 width + spare of them count
 pub record Contents (V : Type 0) : Type 0 where
@@ -20,8 +17,8 @@ count s = 2 * s.width + s.spare
 
 -- x with the sign of a call
 abbrev pub signed : (o : Ops) → Call → o.V → o.V
-signed o enter x = x
-signed o withdraw x = o.minus x
+signed o Enter x = x
+signed o Withdraw x = o.minus x
 
 -- the most that the turnover may come to in a field of order q
 abbrev pub limit : ℕ → ℕ

@@ -1,6 +1,6 @@
 pub mod Contents
-pub mod Bodies
 pub mod Access
 pub mod Logs
 pub mod Nets
 pub mod Reach
+pub mod Bodies

@@ -1,7 +1,9 @@
 -- Logs of the calls on a tally, the net counts of their codes, and what it is for a tally to have kept a log.
 use Rattle.std.specs.Prelude.{◌≡◌, ℕ, ◌+◌, ◌<◌, Bool, true, false, cond, ◌&&◌, List, [], ◌∷◌, ℤ, pos, ◌-ℤ◌, ◌==◌}
 use Rattle.algebra.specs.Rings.{Ops, power, number}
-use Rattle.tally.specs.Contents.{Call, enter, withdraw, Contents, count, signed, answering}
+use Rattle.tally.specs.declared.call.Call.{Call}
+use Rattle.tally.specs.declared.call.Call.TheVariants.{Enter, Withdraw}
+use Rattle.tally.specs.Contents.{Contents, count, signed, answering}
 
 -- a call with its code, its quantity and its answer
 pub record Line : Type 0 where
@@ -32,10 +34,10 @@ Answered q t [] = Unit {0}
 Answered q t (l ∷ ls) = (l.answer ≡ answering q t l.code l.quantity) × Answered q (t + cond (took l) l.quantity 0) ls
 
 abbrev pub same_call : Call → Call → Bool
-same_call enter enter = true
-same_call enter withdraw = false
-same_call withdraw enter = false
-same_call withdraw withdraw = true
+same_call Enter Enter = true
+same_call Enter Withdraw = false
+same_call Withdraw Enter = false
+same_call Withdraw Withdraw = true
 
 -- how many of the code a the accepted lines of one call moved
 abbrev pub counted : Call → Log → ℕ → ℕ
@@ -44,7 +46,7 @@ counted c (l ∷ ls) a = cond (took l && (same_call c l.call && l.code == a)) l.
 
 -- the net count of the code a: all entered less all withdrawn
 abbrev pub net : Log → ℕ → ℤ
-net log a = pos (counted enter log a) -ℤ pos (counted withdraw log a)
+net log a = pos (counted Enter log a) -ℤ pos (counted Withdraw log a)
 
 -- the sum over the accepted lines of the signed quantity times the power k of the code's element
 abbrev pub moment : (o : Ops) → (ℕ → o.V) → Log → ℕ → o.V

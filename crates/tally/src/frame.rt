@@ -1,10 +1,46 @@
-ghost use Rattle.std.specs.Prelude.{◌≤◌};
+ghost use Rattle.std.specs.Prelude.{◌≡◌, ◌+◌, ◌*◌, ◌≤◌, IfOk};
+ghost use Rattle.algebra.specs.Refusals.{reply};
+ghost use Rattle.tally.specs.Contents.{framing};
+
+use algebra::refusal::Refusal;
 
 // The width w and the spare s of a tally, which keeps 2 w + s sums: w is the number of codes that a difference can name,
 // and s the number of sums more by which it is checked.
-#[derive(Clone, Copy)]
+#[derive(Clone, Copy, PartialEq, Eq, Debug)]
 pub struct Frame {
-    pub(crate) width: u32,
-    pub(crate) spare: u32,
+    pub width: u32,
+    pub spare: u32,
     ghost ok: { (1 ≤ width) × (width ≤ 32) × (spare ≤ 32) },
+}
+
+impl Frame {
+    // A frame of width 1 to 32 and spare 0 to 32.
+    pub fn new(width: u32, spare: u32) -> Result<Frame, Refusal>
+        ensures answers { reply result ≡ framing width spare }
+        ensures made { IfOk result (λ f. (f.width ≡ width) × (f.spare ≡ spare)) }
+    {
+        if width == 0 || width > 32 || spare > 32 {
+            return Err(Refusal::Frame);
+        }
+        Ok(Frame { width, spare })
+    }
+
+    pub fn width(self) -> u32
+        ensures { result ≡ self.width }
+    {
+        self.width
+    }
+
+    pub fn spare(self) -> u32
+        ensures { result ≡ self.spare }
+    {
+        self.spare
+    }
+
+    // The number of sums.
+    pub fn count(self) -> usize
+        ensures { result ≡ 2 * self.width + self.spare }
+    {
+        (2 * self.width + self.spare) as usize
+    }
 }

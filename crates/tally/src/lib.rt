@@ -1,11 +1,8 @@
 // Tallies of part codes, kept as power sums in a finite field: frames, open and closed tallies, their logs, and comparing.
 #![tactic(auto)]
 
-mod access;
-mod admit;
+pub mod call;
 pub mod closed;
 pub mod frame;
-mod frames;
 pub mod open;
-mod raise;
 pub mod sums;

@@ -12,7 +12,7 @@ pub returns-in_err-check_name : goal.returns-in_err-check_name
 returns-in_err-check_name g c =
     let q = g.F.Field.order in
     let at = element g.F.Ring g.F.Field in
-    let k = contents g.F.Ring c.args.tally.now.body in
+    let k = contents g.F.Ring c.args.tally.now in
     let name = c.args.name.now in
     let out = c.args.out.now in
     let e = c.in_err-check_name.field-0.0 in
@@ -28,10 +28,10 @@ pub returns : goal.returns
 returns g c =
     let q = g.F.Field.order in
     let at = element g.F.Ring g.F.Field in
-    let k = contents g.F.Ring c.args.tally.now.body in
+    let k = contents g.F.Ring c.args.tally.now in
     let name = c.args.name.now in
     let out = c.args.out.now in
-    let f = c.args.tally.now.body.frame in
+    let f = c.args.tally.now.frame in
     let total : c.count-sums.result ≡ count k = c.count-sums.ensures ∙ ap (λ x. 2 * x.width + x.spare) c.frame-frame.ensures in
     let o1 = c.put_frame.new.out in
     let o2 = c.put.new.out in

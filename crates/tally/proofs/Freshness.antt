@@ -1,7 +1,0 @@
--- A row of equal elements.
-use Rattle.std.proofs.Common.{◌≡◌, ℕ, zero, suc, map, get_or, replicate, refl}
-
-pub row_of : {S V : Type 0} (value : S → V) (z : V) (x : S) (n k : ℕ) → value x ≡ z → get_or (map value (replicate n x)) k z ≡ z
-row_of value z x zero k e = refl
-row_of value z x (suc n) zero e = e
-row_of value z x (suc n) (suc k) e = row_of value z x n k e
