@@ -3,7 +3,7 @@ ghost use Rattle.sheet.specs.Faults.{item_answer};
 ghost use Rattle.sheet.specs.Sheets.{frame_items};
 ghost use Rattle.sheet.specs.Sections.{FrameTold};
 
-use crate::fault::{FrameFault, NumberFault};
+use crate::fault::FrameFault;
 use crate::head::Head;
 use crate::numbers::{counted, ranged};
 use tally::frame::Frame;
@@ -18,8 +18,7 @@ pub(crate) fn read_frame(bytes: &[u8], order: u32) -> Result<Head, FrameFault>
     let width = ranged(bytes, 8, 1, 32)?;
     let spare = ranged(bytes, 12, 0, 32)?;
     let turnover = ranged(bytes, 16, 0, (order - 1) / 4)?;
-    match Frame::new(width, spare) {
-        Ok(frame) => Ok(Head { frame, turnover }),
-        Err(_) => Err(FrameFault(NumberFault::Value(8))),
-    }
+    // the ranges of the width and the spare are those of a frame
+    let frame = Frame::new(width, spare).unwrap();
+    Ok(Head { frame, turnover })
 }

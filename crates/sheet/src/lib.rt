@@ -4,7 +4,6 @@
 
 mod check_name;
 pub mod fault;
-mod faults;
 mod frame_section;
 mod head;
 mod name_section;
@@ -13,5 +12,4 @@ mod put;
 mod put_sums;
 pub mod read;
 mod sums_section;
-mod told;
 pub mod write;

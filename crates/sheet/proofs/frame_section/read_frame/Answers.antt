@@ -45,7 +45,8 @@ returns-in_err-turnover c =
     (after _ _ (good_item bs 8 1 32 _ 1 14 c.in_ok-width.ensures)
     (after _ _ (good_item bs 12 0 32 _ 1 14 c.in_ok-spare.ensures) (c.in_err-turnover.ensures 1)))))
 
-pub returns-in-Ok : goal.returns-in-Ok
-returns-in-Ok c =
-    frame_all c.args.order _ _ _ _ _ c.args.bytes.now c.in-Ok.frame c.in_ok-_four.ensures c.in_ok-_order.ensures
-    c.in_ok-width.ensures c.in_ok-spare.ensures c.in_ok-turnover.ensures c.in-Ok.ensures.made.0 c.in-Ok.ensures.made.1
+pub returns : goal.returns
+returns c =
+    let made = rw c.unwrap-frame.ensures at c.new.ensures.made in
+    frame_all c.args.order _ _ _ _ _ c.args.bytes.now c.unwrap-frame.result c.in_ok-_four.ensures c.in_ok-_order.ensures
+    c.in_ok-width.ensures c.in_ok-spare.ensures c.in_ok-turnover.ensures made.0 made.1
