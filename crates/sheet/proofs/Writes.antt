@@ -10,8 +10,7 @@ use Rattle.sheet.specs.Sheets.{word, frame_bytes, sums_bytes, name_bytes, sheet_
 use Rattle.sheet.specs.Sections.{SumsPut}
 use Rattle.sheet.specs.Reads.{Named, Taken, Written}
 use Rattle.sheet.proofs.Words.{word_long}
-use Rattle.sheet.proofs.Items.{first-all, passed}
-use Rattle.sheet.proofs.Names.{letter_answer, letter_good, name_good}
+use Rattle.sheet.proofs.Items.{passed}
 use Rattle.sheet.proofs.Puts.{step, joined_long}
 
 -- a refusal stays whatever comes after it
@@ -36,9 +35,6 @@ pub refusal_refuses : (e : Refusal) → answer e ≡ accepted → ⊥
 refusal_refuses e h =
     let z : ◌≡◌ {A = ℕ} 1 0 = ap (λ x. x.0) (sym (refusal_stops e accepted (1, []) h) ∙ h) in
     omega arith
-
-pub named_passes : (name : List ℕ) → Named name → accepted ≡ naming name
-named_passes name n = name_good name n.most (first-all (letter_answer name) (length name) (λ k h. letter_good name k (n.letters k h).0 (n.letters k h).1))
 
 pub writing-short : (n long : ℕ) (name : List ℕ) → accepted ≡ naming name → long < sheet_long n (length name) → (6, sheet_long n (length name) ∷ []) ≡ writing n long name
 writing-short n long name p h = sym (passed (naming name) _ (sym p) ∙ rw (lt-ltb long (sheet_long n (length name)) h))

@@ -5,7 +5,8 @@ use Rattle.tally.specs.Bodies.{contents, element}
 use Rattle.tally.specs.Contents.{count}
 use Rattle.sheet.specs.Sheets.{word, frame_bytes, name_bytes, sheet_long, naming}
 use Rattle.sheet.specs.Reads.{Written}
-use Rattle.sheet.proofs.Writes.{refusal_stops, refusal_refuses, named_passes, writing-all, written_all, again}
+use Rattle.sheet.proofs.Names.{name_good}
+use Rattle.sheet.proofs.Writes.{refusal_stops, refusal_refuses, writing-all, written_all, again}
 use Rattle.sheet.proofs.write.write.Goals as goal
 
 pub returns-in_err-check_name : goal.returns-in_err-check_name
@@ -21,7 +22,7 @@ returns-in_err-check_name g c =
     rw (p.1, p.2) (record {
       answers = refusal_stops e (naming name) _ told;
       written = refl;
-      again = λ bs rest t. absurd (refusal_refuses e (told ∙ sym (named_passes name t.sound.named)));
+      again = λ bs rest t. absurd (refusal_refuses e (told ∙ sym (name_good name t.sound.named)));
     })
 
 pub returns : goal.returns
