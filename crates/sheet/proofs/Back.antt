@@ -1,9 +1,9 @@
 -- A sheet that stands at the start of the bytes is read as what it was made of.
 use Rattle.std.proofs.Common.{◌≡◌, ℕ, zero, suc, ◌+◌, ◌-◌, ◌*◌, ◌/◌, ◌^◌, ◌<◌, ◌≤◌, List, [], ◌∷◌, ◌++◌, length, get_or, take, drop, sym, refl, ap, ◌∙◌, subst, inl, inr, add-zero, arith}
 use Rattle.std.specs.List.{flat_map}
-use Rattle.std.proofs.lemmas.List.{append_assoc, drop-drop, drop_at, take_at, get_or-drop, get_or_append_left, length-append, length-drop, get_or_push, ext_get_or}
+use Rattle.std.proofs.lemmas.List.{append_assoc, drop-drop, drop_at, take_at, get_or_append_left, length-append, length-drop, get_or_push, ext_get_or}
 use Rattle.algebra.specs.Refusals.{accepted, or_else}
-use Rattle.sheet.specs.Sheets.{first, number_at, told_codes, told_count, word, Good, frame_items, frame_bytes, sums_items, sums_bytes, name_items, name_bytes, sheet_bytes, reading}
+use Rattle.sheet.specs.Sheets.{number_at, told_codes, told_count, word, Good, frame_bytes, sums_items, sums_bytes, name_items, name_bytes, sheet_bytes, reading}
 use Rattle.sheet.specs.Reads.{Sound}
 use Rattle.sheet.proofs.Words.{number-drop, number_of, word_long}
 use Rattle.sheet.proofs.Items.{below, passed, exactly}

@@ -1,5 +1,5 @@
 -- What follows where each item of a section was good: its answer, and that the bytes are those of the section.
-use Rattle.std.proofs.Common.{◌≡◌, ℕ, zero, suc, ◌+◌, ◌-◌, ◌*◌, ◌/◌, ◌<◌, ◌≤◌, List, [], ◌∷◌, ◌++◌, length, get_or, true, take, drop, sym, refl, ap, ◌∙◌, subst, add-zero, add-one, arith}
+use Rattle.std.proofs.Common.{◌≡◌, ℕ, zero, suc, ◌+◌, ◌-◌, ◌*◌, ◌/◌, ◌<◌, ◌≤◌, List, [], ◌∷◌, ◌++◌, length, get_or, true, take, drop, sym, refl, ap, ◌∙◌, subst, add-one, arith}
 use Rattle.std.specs.List.{flat_map}
 use Rattle.std.proofs.lemmas.List.{append_assoc, flat_map_more, length-append, length-drop, length-take-le, drop-drop, take-append-drop, get_or-drop, get_or-take, get_or_append_left}
 use Rattle.algebra.specs.Refusals.{accepted}

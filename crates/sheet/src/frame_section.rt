@@ -1,10 +1,11 @@
-ghost use Rattle.std.specs.Prelude.{◌≡◌, ◌≤◌, MatchResult};
+ghost use Rattle.std.specs.Prelude.{◌≡◌, ◌+◌, ◌≤◌, length, MatchResult};
 ghost use Rattle.sheet.specs.Faults.{item_answer};
-ghost use Rattle.sheet.specs.Sheets.{frame_items};
-ghost use Rattle.sheet.specs.Sections.{FrameTold};
+ghost use Rattle.sheet.specs.Sheets.{frame_items, frame_bytes};
+ghost use Rattle.sheet.specs.Sections.{FrameTold, Puts};
 
 use crate::fault::{FrameFault, NumberFault};
 use crate::reader::Reader;
+use crate::writer::Writer;
 use tally::frame::Frame;
 
 impl Reader<'_> {
@@ -23,5 +24,19 @@ impl Reader<'_> {
         // the ranges of the width and the spare are those of a frame
         let frame = Frame::new(width, spare).unwrap();
         Ok((frame, turnover))
+    }
+}
+
+impl Writer<'_> {
+    pub(crate) fn frame(&mut self, order: u32, frame: Frame, turnover: u32)
+        requires { self.old.place + 20 ≤ length self.old.out.now }
+        ensures same_reference { self.new.out.ghost_name ≡ self.old.out.ghost_name }
+        ensures puts { Puts (frame_bytes order frame.width frame.spare turnover) self.old.out.now self.old.place self.new.out.now self.new.place }
+    {
+        self.number(4);
+        self.number(order);
+        self.number(frame.width());
+        self.number(frame.spare());
+        self.number(turnover);
     }
 }

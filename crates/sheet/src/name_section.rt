@@ -1,11 +1,12 @@
-ghost use Rattle.std.specs.Prelude.{◌≡◌, ◌≤◌, MatchResult};
+ghost use Rattle.std.specs.Prelude.{◌≡◌, ◌+◌, ◌≤◌, length, MatchResult};
 ghost use Rattle.sheet.specs.Faults.{item_answer};
-ghost use Rattle.sheet.specs.Sheets.{name_items};
-ghost use Rattle.sheet.specs.Sections.{NameTold};
+ghost use Rattle.sheet.specs.Sheets.{name_items, name_bytes};
+ghost use Rattle.sheet.specs.Sections.{NameTold, Puts};
 
 use crate::fault::{JobFault, NumberFault};
 use crate::letter::LONGEST;
 use crate::reader::Reader;
+use crate::writer::Writer;
 
 impl<'a> Reader<'a> {
     // The job name that the third section tells.
@@ -19,5 +20,17 @@ impl<'a> Reader<'a> {
             self.letter()?;
         }
         Ok(&self.bytes[start..self.place])
+    }
+}
+
+impl Writer<'_> {
+    pub(crate) fn name(&mut self, name: &[u8])
+        requires most { length name.now ≤ 40 }
+        requires room { self.old.place + 4 + length name.now ≤ length self.old.out.now }
+        ensures same_reference { self.new.out.ghost_name ≡ self.old.out.ghost_name }
+        ensures puts { Puts (name_bytes name.now) self.old.out.now self.old.place self.new.out.now self.new.place }
+    {
+        self.number(name.len() as u32);
+        self.put(name);
     }
 }

@@ -1,12 +1,17 @@
 ghost use Rattle.std.specs.Prelude.{◌≡◌, ◌+◌, ◌*◌, ◌≤◌, length, MatchResult};
 ghost use Rattle.tally.specs.Access.{code_at};
+ghost use Rattle.tally.specs.Bodies.{contents, element};
+ghost use Rattle.tally.specs.Contents.{count};
 ghost use Rattle.sheet.specs.Faults.{item_answer};
 ghost use Rattle.sheet.specs.Sheets.{sums_items};
-ghost use Rattle.sheet.specs.Sections.{SumsTold};
+ghost use Rattle.sheet.specs.Sections.{SumsTold, SumsPut};
 
 use crate::fault::{NumberFault, SumsFault};
 use crate::reader::Reader;
+use crate::writer::Writer;
 use algebra::code::Code;
+use algebra::field::Field;
+use tally::closed::Closed;
 
 impl Reader<'_> {
     // The codes of the sums that the second section tells; as many must stand there as `codes` has room for.
@@ -23,5 +28,19 @@ impl Reader<'_> {
             *code = Code(self.number(0..=order - 1, NumberFault::Value)?);
         }
         Ok(())
+    }
+}
+
+impl Writer<'_> {
+    pub(crate) fn sums<F: Field>(&mut self, tally: &Closed<F>)
+        requires { self.old.place + 4 * (1 + count (contents F.Ring tally.now.body)) ≤ length self.old.out.now }
+        ensures same_reference { self.new.out.ghost_name ≡ self.old.out.ghost_name }
+        ensures puts { SumsPut F.Field.order (element F.Ring F.Field.own) (contents F.Ring tally.now.body) self.old.out.now self.old.place self.new.out.now self.new.place }
+    {
+        let count = tally.frame().count();
+        self.number(count as u32);
+        for k in 0..count {
+            self.number(tally.sum_code(k).0);
+        }
     }
 }

@@ -1,16 +1,15 @@
-use Rattle.std.proofs.Common.{rules, ◌≡◌, ◌+◌, ◌*◌, drop, Ok, sym, ap, ◌∙◌, subst, refl, arith, length, MatchResult}
+use Rattle.std.proofs.Common.{◌≡◌, ◌+◌, ◌*◌, drop, Ok, sym, ap, ◌∙◌, subst, refl, arith}
 use Rattle.std.proofs.lemmas.List.{length-take-le}
 use Rattle.algebra.specs.Refusals.{accepted}
 use Rattle.tally.specs.Access.{code_at}
 use Rattle.tally.specs.Bodies.{contents, element}
-use Rattle.sheet.specs.declared.fault.SheetFault.{SheetFault}
 use Rattle.sheet.specs.declared.fault.SheetFault.TheVariants.{Frame, Sums, Job}
-use Rattle.sheet.specs.Faults.{item_answer, sheet_reply}
+use Rattle.sheet.specs.Faults.{item_answer}
 use Rattle.sheet.specs.Sheets.{frame_items, sums_items, name_items, reading}
 use Rattle.sheet.specs.Sections.{FrameTold, SumsTold, NameTold}
 use Rattle.sheet.specs.Reads.{Taken}
 use Rattle.sheet.proofs.Readings.{sheet_exits, reading_frame, reading_sums, reading_name, reading-all, taken_all}
-use Rattle.sheet.proofs.Laws.{Parts, refused_laws, both_laws}
+use Rattle.sheet.proofs.Laws.{refused_laws, both_laws}
 use Rattle.sheet.proofs.read.read.Goals as goal
 
 pub returns-in_err-frame : goal.returns-in_err-frame

@@ -1,4 +1,4 @@
-use Rattle.std.proofs.Common.{rules, arith, ◌≡◌, ◌≤◌, ◌+◌, ◌++◌, length, drop, true, false, ap, sym, ◌∙◌, inl, inr}
+use Rattle.std.proofs.Common.{rules, ◌≡◌, ◌≤◌, ◌+◌, ◌++◌, length, drop, true, false, ap, sym, ◌∙◌, inr}
 use Rattle.std.specs.Range.{range_inclusive_start, range_inclusive_end}
 use Rattle.sheet.specs.Sheets.{word, within, number_at}
 use Rattle.sheet.proofs.Words.{number_of_four, word_first}
@@ -13,7 +13,7 @@ returns-then-not-contains-clause-refused g c =
     let least = range_inclusive_start c.args.range in
     let most = range_inclusive_end c.args.range in
     let bad : within least most c.from_be_bytes-n.result ≡ false = search rules in
-    let here = number_of_four bs p _ c.in_ok-item.ensures.cases in
+    let here = number_of_four bs p _ c.in_ok-four.ensures.cases in
     let whole : p + 4 ≤ length bs = search rules in
     record { why = inr (whole, ap (within least most) (here ∙ sym c.from_be_bytes-n.ensures) ∙ bad, c.fault.ensures) }
 
@@ -26,12 +26,12 @@ returns-clause-good g c =
     let most = range_inclusive_end c.args.range in
     let n = c.from_be_bytes-n.result in
     let good : within least most n ≡ true = search rules in
-    let is : n ≡ number_at bs p = c.from_be_bytes-n.ensures ∙ sym (number_of_four bs p _ c.in_ok-item.ensures.cases) in
+    let is : n ≡ number_at bs p = c.from_be_bytes-n.ensures ∙ sym (number_of_four bs p _ c.in_ok-four.ensures.cases) in
     let whole : p + 4 ≤ length bs = search rules in
     record {
       is = is;
       whole = whole;
-      cut = word_first bs p _ c.in_ok-item.ensures.cases whole c.in_ok-item.ensures.bytes ∙ ap (λ m. word m ++ drop (p + 4) bs) (sym is);
+      cut = word_first bs p _ c.in_ok-four.ensures.cases whole c.in_ok-four.ensures.bytes ∙ ap (λ m. word m ++ drop (p + 4) bs) (sym is);
       low = within_low least most n good;
       high = within_high least most n good;
     }

@@ -1,4 +1,4 @@
-use Rattle.std.proofs.Common.{◌≡◌, ◌+◌, ◌-◌, ◌*◌, length, ap, arith}
+use Rattle.std.proofs.Common.{◌+◌, ◌-◌, ◌*◌, length, ap, arith}
 use Rattle.sheet.specs.Faults.{item_answer}
 use Rattle.sheet.specs.Sheets.{sums_items, Good}
 use Rattle.sheet.proofs.Items.{stops, first_stops, first-all, good_there, refused_there}
