@@ -1,4 +1,4 @@
--- What the sections of a sheet told when each of their items was good.
+-- What a section of a sheet tells where each of its items is good, what its reader answers where one is not, and what is written.
 use Rattle.std.specs.Prelude.{◌≡◌, ℕ, ◌+◌, ◌-◌, ◌*◌, ◌/◌, ◌<◌, ◌≤◌, Bool, false, ◌⊎◌, List, ◌++◌, length, take, drop}
 use Rattle.tally.specs.Contents.{Contents}
 use Rattle.sheet.specs.declared.fault.NumberFault.{NumberFault}
@@ -6,6 +6,7 @@ use Rattle.sheet.specs.declared.fault.NumberFault.TheVariants.{Cut}
 use Rattle.sheet.specs.Reads.{Named, CodesOf}
 use Rattle.sheet.specs.Sheets.{sums_bytes, Good}
 
+-- the section of the frame
 pub record FrameTold (q : ℕ) (bs : List ℕ) (w s t : ℕ) : Type 0 where
   pub count : Good bs 0 4 4 4
   pub order : Good bs 4 q q q
@@ -13,6 +14,7 @@ pub record FrameTold (q : ℕ) (bs : List ℕ) (w s t : ℕ) : Type 0 where
   pub spare : Good bs 12 0 32 s
   pub turnover : Good bs 16 0 ((q - 1) / 4) t
 
+-- the section of n sums, whose codes are `code`
 pub record SumsTold (q n : ℕ) (bs : List ℕ) (code : ℕ → ℕ) : Type 0 where
   pub count : Good bs 20 n n n
   pub codes : (k : ℕ) → k < n → Good bs (24 + 4 * k) 0 (q - 1) (code k)

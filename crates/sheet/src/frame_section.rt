@@ -8,6 +8,9 @@ use crate::reader::Reader;
 use crate::writer::Writer;
 use tally::frame::Frame;
 
+// The most that the width and the spare of a frame may be.
+const MOST: u32 = 32;
+
 impl Reader<'_> {
     // The frame and the turnover that the first section tells, in a field of this order.
     pub(crate) fn frame(&mut self, order: u32) -> Result<(Frame, u32), FrameFault>
@@ -18,8 +21,8 @@ impl Reader<'_> {
     {
         let _four = self.number(4..=4, NumberFault::Count)?;
         let _order = self.number(order..=order, NumberFault::Value)?;
-        let width = self.number(1..=32, NumberFault::Value)?;
-        let spare = self.number(0..=32, NumberFault::Value)?;
+        let width = self.number(1..=MOST, NumberFault::Value)?;
+        let spare = self.number(0..=MOST, NumberFault::Value)?;
         let turnover = self.number(0..=(order - 1) / 4, NumberFault::Value)?;
         // the ranges of the width and the spare are those of a frame
         let frame = Frame::new(width, spare).unwrap();
@@ -28,6 +31,7 @@ impl Reader<'_> {
 }
 
 impl Writer<'_> {
+    // Puts the section of the frame.
     pub(crate) fn frame(&mut self, order: u32, frame: Frame, turnover: u32)
         requires { self.old.place + 20 ≤ length self.old.out.now }
         ensures same_reference { self.new.out.ghost_name ≡ self.old.out.ghost_name }

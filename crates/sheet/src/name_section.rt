@@ -24,8 +24,9 @@ impl<'a> Reader<'a> {
 }
 
 impl Writer<'_> {
+    // Puts the section of the job name.
     pub(crate) fn name(&mut self, name: &[u8])
-        requires most { length name.now ≤ 40 }
+        requires most { length name.now ≤ LONGEST }
         requires room { self.old.place + 4 + length name.now ≤ length self.old.out.now }
         ensures same_reference { self.new.out.ghost_name ≡ self.old.out.ghost_name }
         ensures puts { Puts (name_bytes name.now) self.old.out.now self.old.place self.new.out.now self.new.place }

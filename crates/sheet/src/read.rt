@@ -6,6 +6,7 @@ ghost use Rattle.sheet.specs.Reads.{Taken, ReadsBack, ReadsLog};
 
 use crate::fault::SheetFault;
 use crate::reader::Reader;
+use crate::sums_section::MOST_SUMS;
 use algebra::code::Code;
 use algebra::field::Field;
 use tally::closed::Closed;
@@ -24,8 +25,8 @@ pub fn read<'a, F: Field>(
     let order = F::size();
     let mut reader = Reader::new(bytes);
     let (frame, turnover) = reader.frame(order)?;
-    // the libraries allocate nothing, so room stands ready for the most codes that a frame has
-    let mut room = [Code(0); 96];
+    // the library allocates nothing, so there is room for the codes of any frame
+    let mut room = [Code(0); MOST_SUMS];
     let codes = &mut room[..frame.count()];
     reader.sums(order, codes)?;
     let name = reader.name()?;

@@ -1,4 +1,4 @@
-ghost use Rattle.std.specs.Prelude.{◌≡◌, ◌+◌, ℕ, IsOk, take, ◌↔◌, ◌<◌, ◌≤◌, drop, true, false, length, slice_index, OnOk, OnErr, MatchResult, IfOk, IfErr};
+ghost use Rattle.std.specs.Prelude.{◌≡◌, ℕ, ◌+◌, ◌<◌, ◌≤◌, ◌↔◌, true, false, length, take, drop, slice_index, IsOk, IfOk, IfErr, OnOk, OnErr, MatchResult};
 ghost use Rattle.std.specs.Range.{range_inclusive_start, range_inclusive_end, range_inclusive_exhausted};
 ghost use Rattle.sheet.specs.declared.fault.NumberFault.TheVariants.{Cut, Value};
 ghost use Rattle.sheet.specs.Sheets.{number_at, within, Good};
@@ -36,7 +36,7 @@ impl<'a> Reader<'a> {
             .ok_or(NumberFault::Cut(self.place))
     }
 
-    // The number at the place, which must lie in the range; the reader steps over it. `fault` tells of a number that does not.
+    // The number at the place, which must lie in the range, else `fault` tells why not. The reader steps over it.
     pub(crate) fn number<F: FnOnce(usize) -> NumberFault>(
         &mut self,
         range: RangeInclusive<u32>,
@@ -59,7 +59,7 @@ impl<'a> Reader<'a> {
         Ok(n)
     }
 
-    // The byte of a job name at the place; the reader steps over it.
+    // Steps over the byte at the place, which must be one of a job name.
     pub(crate) fn letter(&mut self) -> Result<(), NumberFault>
         ensures same { self.new.bytes.now ≡ self.old.bytes.now }
         ensures steps { OnOk result (self.new.place ≡ self.old.place + 1) }

@@ -13,11 +13,14 @@ use algebra::code::Code;
 use algebra::field::Field;
 use tally::closed::Closed;
 
+// The most sums that a frame may have.
+pub(crate) const MOST_SUMS: usize = 96;
+
 impl Reader<'_> {
     // The codes of the sums that the second section tells; as many must stand there as `codes` has room for.
     pub(crate) fn sums(&mut self, order: u32, codes: &mut [Code]) -> Result<(), SumsFault>
         requires order { 1 ≤ order }
-        requires most { length codes.old ≤ 96 }
+        requires most { length codes.old ≤ MOST_SUMS }
         requires start { self.old.place ≡ 20 }
         ensures same { self.new.bytes.now ≡ self.old.bytes.now }
         ensures answers { MatchResult result (λ _. (self.new.place ≡ 24 + 4 * length codes.old) × SumsTold order (length codes.old) self.old.bytes.now (code_at codes.new)) (λ e. item_answer 2 e.0 ≡ sums_items order (length codes.old) self.old.bytes.now) }
@@ -32,6 +35,7 @@ impl Reader<'_> {
 }
 
 impl Writer<'_> {
+    // Puts the section of the sums of a tally.
     pub(crate) fn sums<F: Field>(&mut self, tally: &Closed<F>)
         requires { self.old.place + 4 * (1 + count (contents F.Ring tally.now.body)) ≤ length self.old.out.now }
         ensures same_reference { self.new.out.ghost_name ≡ self.old.out.ghost_name }
@@ -39,6 +43,7 @@ impl Writer<'_> {
     {
         let count = tally.frame().count();
         self.number(count as u32);
+        // a tally gives the codes of its sums one by one, by their numbers
         for k in 0..count {
             self.number(tally.sum_code(k).0);
         }
