@@ -1,18 +1,13 @@
 -- A sheet that stands at the start of the bytes is read as what it was made of.
 use Rattle.std.proofs.Common.{◌≡◌, ℕ, zero, suc, ◌+◌, ◌-◌, ◌*◌, ◌/◌, ◌^◌, ◌<◌, ◌≤◌, List, [], ◌∷◌, ◌++◌, length, get_or, take, drop, sym, refl, ap, ◌∙◌, subst, inl, inr, add-zero, arith}
 use Rattle.std.specs.List.{flat_map}
-use Rattle.std.proofs.lemmas.List.{append_assoc, drop-drop, drop_at, take_at, get_or-drop, get_or_append_left, length-append, length-drop, get_or_push, ext_get_or}
+use Rattle.std.proofs.lemmas.List.{append_assoc, drop-drop, drop_at, take_at, get_or_append_left, length-append, length-drop, get_or_push, ext_get_or}
 use Rattle.algebra.specs.Refusals.{accepted, or_else}
-use Rattle.sheet.specs.Sheets.{first, number_at, told_codes, told_count, word, Good, frame_items, frame_bytes, sums_items, sums_bytes, name_items, name_bytes, sheet_bytes, reading}
+use Rattle.sheet.specs.Sheets.{number_at, told_codes, told_count, word, Good, frame_bytes, sums_items, sums_bytes, name_items, name_bytes, sheet_bytes, reading}
 use Rattle.sheet.specs.Reads.{Sound}
-use Rattle.sheet.proofs.Words.{number_of, word_long}
-use Rattle.sheet.proofs.Items.{below, first-all, passed, item_good, within_true}
-use Rattle.sheet.proofs.Exits.{good_item}
-use Rattle.sheet.proofs.SoFar.{sum_item, letter_item, told_long}
-
-number-drop : (bs : List ℕ) (p : ℕ) → number_at bs p ≡ number_at (drop p bs) 0
-unfolding number_at
-number-drop bs p = simp (get_or-drop, add-zero)
+use Rattle.sheet.proofs.Words.{number-drop, number_of, word_long}
+use Rattle.sheet.proofs.Items.{below, passed, exactly}
+use Rattle.sheet.proofs.Sections.{told_long, frame_accepted, sums_accepted, name_accepted}
 
 pub next : (bs : List ℕ) (p n : ℕ) (post : List ℕ) → drop p bs ≡ word n ++ post → drop (p + 4) bs ≡ post
 next bs p n post e = sym (drop-drop 4 p bs) ∙ ap (drop 4) e ∙ drop_at (word n) post 4 (word_long n)
@@ -74,7 +69,7 @@ flat q w s t codes name rest = simp append_assoc
 module _ (q w s t : ℕ) (codes name rest bs : List ℕ) (some : 1 ≤ q) (low : q < 2 ^ 31) (sound : Sound q w s t codes name)
     (is : bs ≡ sheet_bytes q w s t codes name ++ rest) where
   pub told : Told q w s t codes name rest bs
-  unfolding reading frame_items sums_items name_items
+  unfolding reading
   told =
       let count : length codes ≡ 2 * w + s = sound.coded.long in
       let small : 2 * w + s ≤ 96 = omega (arith, sound.framed) in
@@ -95,28 +90,21 @@ module _ (q w s t : ℕ) (codes name rest bs : List ℕ) (some : 1 ≤ q) (low :
       let g16 = good_at bs 16 0 ((q - 1) / 4) t _ e16 (omega (arith, sound.turnover)) (omega arith) sound.turnover in
       let g20 = good_at bs 20 (2 * w + s) (2 * w + s) (length codes) _ e20 (omega arith) (omega arith) (omega arith) in
       let gz = good_at bs place 0 40 (length name) _ ez (omega (arith, sound.named.most)) (omega arith) sound.named.most in
-      let gs : (k : ℕ) → k < 2 * w + s → Good bs (24 + 4 * k) 0 (q - 1) (get_or codes k 0) = λ k l.
+      let coded : (k : ℕ) → k < 2 * w + s → Good bs (24 + 4 * k) 0 (q - 1) (get_or codes k 0) = λ k l.
       let small = sound.coded.small k l in
       let at = sum-at codes _ bs 24 k e24 (omega arith) in
       good_at bs (24 + 4 * k) 0 (q - 1) (get_or codes k 0) at.0 at.1 (omega arith) (omega arith) (omega arith) in
-      let letters : (k : ℕ) → k < length name → letter_item place bs k ≡ accepted = λ k l.
-      let here : get_or bs (place + 4 + k) 0 ≡ get_or name k 0 = sym (get_or-drop (place + 4) bs k 0) ∙ ap (λ x. get_or x k 0) en ∙ get_or_append_left name rest 0 k l in
-      let good = sound.named.letters k l in
-      let long : place + 4 + k + 1 ≤ length bs = omega (arith, length-drop (place + 4) bs, ap length en, length-append name rest) in
-      item_good (length bs) 3 (place + 4 + k) 1 14 _ long (within_true 32 126 _ (subst (λ x. 32 ≤ x) (sym here) good.0) (subst (λ x. x ≤ 126) (sym here) good.1)) in
-      let frames : frame_items q bs ≡ accepted = passed _ _ (good_item bs 0 4 4 4 1 13 g0) ∙ (passed _ _ (good_item bs 4 q q q 1 14 g4)
-      ∙ (passed _ _ (good_item bs 8 1 32 w 1 14 g8) ∙ (passed _ _ (good_item bs 12 0 32 s 1 14 g12) ∙ good_item bs 16 0 ((q - 1) / 4) t 1 14 g16))) in
-      let sums : sums_items q (2 * w + s) bs ≡ accepted = passed _ _ (good_item bs 20 (2 * w + s) (2 * w + s) (length codes) 2 13 g20)
-      ∙ first-all (sum_item q bs) (2 * w + s) (λ k l. good_item bs (24 + 4 * k) 0 (q - 1) (get_or codes k 0) 2 14 (gs k l)) in
-      let names : name_items place bs ≡ accepted = passed _ _ (good_item bs place 0 40 (length name) 3 13 gz)
-      ∙ subst (λ m. first (letter_item place bs) m ≡ accepted) gz.is (first-all (letter_item place bs) (length name) letters) in
+      let end : drop (place + 4 + length name) bs ≡ rest = sym (drop-drop (length name) (place + 4) bs) ∙ ap (drop (length name)) en ∙ drop_at name rest (length name) refl in
+      let frames = frame_accepted q w s t bs (record { count = g0; order = g4; width = g8; spare = g12; turnover = g16 }) in
+      let sums = sums_accepted q (2 * w + s) bs (λ k. get_or codes k 0) (record { count = exactly bs 20 _ _ g20; codes = coded }) in
+      let names = name_accepted place (place + 4 + length name) bs name (record { count = gz; named = sound.named; cut = en ∙ ap (λ x. name ++ x) (sym end) }) in
       let total : told_count bs ≡ 2 * w + s = omega (arith, g8.is, g12.is) in
       record {
         accepts = passed _ _ frames ∙ subst (λ m. or_else (sums_items q m bs) (name_items (24 + 4 * m) bs) ≡ accepted) (sym total) (passed _ _ sums ∙ names);
         width = sym g8.is;
         spare = sym g12.is;
         turnover = sym g16.is;
-        coded = told_same bs codes (2 * w + s) count (λ k l. sym (gs k l).is);
+        coded = told_same bs codes (2 * w + s) count (λ k l. sym (coded k l).is);
         named = ap (λ m. take m (drop (place + 4) bs)) (sym gz.is) ∙ ap (take (length name)) en ∙ take_at name rest (length name) refl;
         after = ap (λ m. drop m (drop (place + 4) bs)) (sym gz.is) ∙ ap (drop (length name)) en ∙ drop_at name rest (length name) refl;
       }

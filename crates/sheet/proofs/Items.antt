@@ -1,11 +1,13 @@
 -- The answer to an item, and the first of several.
-use Rattle.std.proofs.Common.{◌≡◌, ℕ, zero, suc, ◌+◌, ◌<◌, ◌≤◌, Bool, true, false, ◌&&◌, leb, ◌⊎◌, List, [], ◌∷◌, sym, refl, ap, ◌∙◌, subst, inl, inr, eq-or-lt_of_le, add-one, arith, le-ltb, lt-ltb, le-leb}
+use Rattle.std.proofs.Common.{◌≡◌, ℕ, zero, suc, ◌+◌, ◌<◌, ◌≤◌, Bool, true, false, ◌&&◌, leb, ◌⊎◌, List, [], ◌∷◌, ◌++◌, length, drop, sym, refl, ap, ◌∙◌, subst, inl, inr, eq-or-lt_of_le, add-one, arith, le-ltb, lt-ltb, le-leb}
 use borrow.Author.Tests.{lt-leb}
+use Rattle.std.proofs.lemmas.Bool.Decides.{nat_tests}
 use Rattle.algebra.specs.Refusals.{accepted, or_else}
 use Rattle.sheet.specs.declared.fault.NumberFault.{NumberFault}
 use Rattle.sheet.specs.declared.fault.NumberFault.TheVariants.{Cut, Count, Value}
 use Rattle.sheet.specs.Faults.{item_answer}
-use Rattle.sheet.specs.Sheets.{item, first, within}
+use Rattle.sheet.specs.Sheets.{item, first, within, number_at, word, Good}
+use Rattle.sheet.specs.Sections.{Refused}
 
 pub within_true : (a b n : ℕ) → a ≤ n → n ≤ b → within a b n ≡ true
 within_true a b n l h = rw (le-leb a n l, le-leb n b h)
@@ -67,3 +69,40 @@ pub first-all : (f : ℕ → ℕ × List ℕ) (n : ℕ) → ((k : ℕ) → k < n
 unfolding first
 first-all f zero h = refl
 first-all f (suc n) h = passed (first f n) (f n) (first-all f n (λ k l. h k (omega arith))) ∙ h n (omega arith)
+
+pub within_low : (a b n : ℕ) → within a b n ≡ true → a ≤ n
+within_low a b n e = grind (arith, nat_tests)
+
+pub within_high : (a b n : ℕ) → within a b n ≡ true → n ≤ b
+within_high a b n e = grind (arith, nat_tests)
+
+module _ (s size number : ℕ) (good : Bool) (bs : List ℕ) (p : ℕ) (told : NumberFault → Type 0) (e : NumberFault) (is : told e → item_answer s e ≡ (number, s ∷ p ∷ [])) where
+  why_refused : ((length bs < p + size) × (e ≡ Cut p)) ⊎ ((p + size ≤ length bs) × (good ≡ false) × told e) → item_answer s e ≡ item (length bs) s p size number good
+  why_refused (inl h) = ap (item_answer s) h.1 ∙ item-cut (length bs) s p size number good h.0
+  why_refused (inr h) = is h.2 ∙ item_bad (length bs) s p size number good h.0 h.1
+
+  -- an item that was refused is so answered
+  pub refused : Refused told bs p size good e → item_answer s e ≡ item (length bs) s p size number good
+  refused h = why_refused h.why
+
+-- the same, where the bytes, the place and the range are known by equations
+module _ (bs ds : List ℕ) (p r a c b d : ℕ) (bytes : ds ≡ bs) (place : r ≡ p) (least : c ≡ a) (most : d ≡ b) where
+  pub good_there : (n : ℕ) → Good ds r c d n → Good bs p a b n
+  good_there n g = record {
+    is = g.is ∙ ap (λ x. number_at x r) bytes ∙ ap (number_at bs) place;
+    whole = subst (λ x. p + 4 ≤ length x) bytes (omega (arith, g.whole));
+    cut = sym (ap (λ x. drop x bs) place) ∙ sym (ap (drop r) bytes) ∙ g.cut ∙ ap (λ x. word n ++ drop (r + 4) x) bytes ∙ ap (λ x. word n ++ drop (x + 4) bs) place;
+    low = omega (arith, g.low);
+    high = omega (arith, g.high);
+  }
+
+  pub refused_there : (s number : ℕ) (told : NumberFault → Type 0) (e : NumberFault) → (told e → item_answer s e ≡ (number, s ∷ r ∷ []))
+      → Refused told ds r 4 (within c d (number_at ds r)) e → item_answer s e ≡ item (length bs) s p 4 number (within a b (number_at bs p))
+  refused_there s number told e is h =
+      refused s 4 number _ ds r told e is h
+      ∙ ap (λ x. item (length x) s r 4 number (within c d (number_at x r))) bytes ∙ ap (λ x. item (length bs) s x 4 number (within c d (number_at bs x))) place
+      ∙ ap (λ x. item (length bs) s p 4 number (within x d (number_at bs p))) least ∙ ap (λ x. item (length bs) s p 4 number (within a x (number_at bs p))) most
+
+-- a number that had to be a is a
+pub exactly : (bs : List ℕ) (p a n : ℕ) → Good bs p a a n → Good bs p a a a
+exactly bs p a n g = let e : n ≡ a = omega (arith, g.low, g.high) in subst (Good bs p a a) e g

@@ -1,5 +1,6 @@
 -- What follows from an accepted sheet: the tally and the name that it was made of, and their logs.
-use Rattle.std.proofs.Common.{◌≡◌, ℕ, ◌+◌, ◌*◌, ◌^◌, ◌<◌, ◌≤◌, Bool, true, false, cond, ◌||◌, eqb, leb, List, [], ◌∷◌, ◌++◌, take, drop, Ok, Err, Result, sym, refl, ap, ◌∙◌, subst, arith, Bor, ltb-false, eqb-true, MatchResult}
+use Rattle.std.proofs.Common.{◌≡◌, ℕ, ◌+◌, ◌*◌, ◌^◌, ◌<◌, ◌≤◌, Bool, true, false, cond, ◌||◌, eqb, leb, List, [], ◌∷◌, ◌++◌, take, drop, Ok, Err, Result, sym, refl, ap, ◌∙◌, subst, arith, Bor, ltb-false, eqb-true, MatchResult, IsErr}
+use Rattle.std.proofs.lemmas.Result.{MatchResult-from_err}
 use Rattle.algebra.specs.Refusals.{accepted, or_else}
 use Rattle.algebra.specs.Rings.{Ops}
 use Rattle.algebra.specs.Fields.{Bounded}
@@ -92,3 +93,11 @@ module _ (o : Ops) (q : ℕ) (at : ℕ → o.V) (bs : List ℕ) (c : Contents o.
   both_laws Q r answers taken =
       let back = reads_back q at bs (λ (p : Parts). p.0.now) (λ (p : Parts). p.1.now) c (omega arith) bounded.high Q r answers taken in
       (back, reads_log o q at bs (λ (p : Parts). p.0.now) (λ (p : Parts). p.1.now) c r back)
+
+  -- the laws where a fault is answered
+  pub refused_laws : (Q : SheetFault → Type 0) → ((e : SheetFault) → Q e) → (r : Result Parts SheetFault) → IsErr r → sheet_reply r ≡ reading q bs
+      → MatchResult r (Read o q at bs c) Q × ReadsBack q at bs (λ (p : Parts). p.0.now) (λ (p : Parts). p.1.now) r c × ReadsLog o q at bs r c
+  refused_laws Q stays r h answers =
+      let taken = MatchResult-from_err r (Read o q at bs c) Q h stays in
+      let laws = both_laws Q r answers taken in
+      (taken, laws.0, laws.1)

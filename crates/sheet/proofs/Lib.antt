@@ -1,7 +1,7 @@
 pub mod Words
 pub mod Items
 pub mod Exits
-pub mod SoFar
+pub mod Sections
 pub mod Back
 pub mod Laws
 pub mod Readings

@@ -1,21 +1,18 @@
 -- What reading answers, from what its sections told.
-use Rattle.std.proofs.Common.{◌≡◌, ℕ, ◌+◌, ◌-◌, ◌*◌, ◌/◌, ◌<◌, ◌≤◌, List, ◌++◌, length, get_or, take, drop, IsErrAnd, Result, sym, ap, ◌∙◌, subst, arith}
+use Rattle.std.proofs.Common.{◌≡◌, ℕ, ◌+◌, ◌-◌, ◌*◌, ◌/◌, ◌<◌, ◌≤◌, List, ◌++◌, get_or, drop, IsErrAnd, Result, sym, ap, ◌∙◌, subst, arith}
 use Rattle.std.proofs.lemmas.Result.{err_from_is_err_and}
-use Rattle.std.proofs.lemmas.List.{append_assoc, take-append-drop, length-take-le, length-drop, get_or-take, get_or-drop}
+use Rattle.std.proofs.lemmas.List.{append_assoc}
 use Rattle.algebra.specs.Refusals.{accepted}
-use Rattle.algebra.specs.declared.code.Code.{Code}
-use Rattle.tally.specs.Access.{code_at}
 use Rattle.tally.specs.Contents.{Contents, count}
-use Rattle.tally.specs.declared.frame.Frame.{Frame}
 use Rattle.sheet.specs.declared.fault.NumberFault.{NumberFault}
 use Rattle.sheet.specs.declared.fault.SheetFault.{SheetFault}
 use Rattle.sheet.specs.Faults.{item_answer, fault_answer, sheet_reply}
-use Rattle.sheet.specs.Sheets.{told_codes, told_count, word, frame_bytes, sums_bytes, name_bytes, sheet_bytes, frame_items, sums_items, name_items, reading}
+use Rattle.sheet.specs.Sheets.{told_codes, told_count, frame_bytes, sums_bytes, sheet_bytes, frame_items, sums_items, name_items, reading}
 use Rattle.sheet.specs.Sections.{FrameTold, SumsTold, NameTold}
 use Rattle.sheet.specs.Reads.{Taken}
 use Rattle.sheet.proofs.Items.{stops}
 use Rattle.sheet.proofs.Exits.{after}
-use Rattle.sheet.proofs.SoFar.{told_long}
+use Rattle.sheet.proofs.Sections.{told_long, frame_accepted, frame_cut, sums_accepted, sums_cut, name_accepted, name_cut}
 use Rattle.sheet.proofs.Back.{told_at}
 
 pub sheet_exits : {P : Type 0} (e : SheetFault) (x : ℕ × List ℕ) (r : Result P SheetFault) → IsErrAnd r (λ y. y ≡ e) → fault_answer e ≡ x → sheet_reply r ≡ x
@@ -26,70 +23,57 @@ module _ (q : ℕ) (bs : List ℕ) where
   unfolding reading
   reading_frame e h = stops 1 e _ _ h
 
-  module _ (f : Frame) (t n : ℕ) (head : FrameTold q bs f t) (total : n ≡ 2 * f.width + f.spare) where
+  module _ (w s t n : ℕ) (head : FrameTold q bs w s t) (total : n ≡ 2 * w + s) where
     told_n : n ≡ told_count bs
-    told_n = omega (arith, head.width, head.spare)
+    told_n = omega (arith, head.width.is, head.spare.is)
 
     pub reading_sums : (e : NumberFault) → item_answer 2 e ≡ sums_items q n bs → item_answer 2 e ≡ reading q bs
     unfolding reading
-    reading_sums e h = after _ _ head.items (stops 2 e _ _ (subst (λ m. item_answer 2 e ≡ sums_items q m bs) told_n h))
+    reading_sums e h = after _ _ (frame_accepted q w s t bs head) (stops 2 e _ _ (subst (λ m. item_answer 2 e ≡ sums_items q m bs) told_n h))
 
-    module _ (before codes : List Code) (sums : SumsTold q n bs before codes) where
-      pub reading_name : (e : NumberFault) → item_answer 3 e ≡ name_items (24 + 4 * n) bs → item_answer 3 e ≡ reading q bs
+    module _ (code : ℕ → ℕ) (sums : SumsTold q n bs code) where
+      -- what the name is answered, the sheet is answered
+      reading_rest : (x : ℕ × List ℕ) → x ≡ name_items (24 + 4 * n) bs → x ≡ reading q bs
       unfolding reading
-      reading_name e h =
-          after _ _ head.items (after _ _ (subst (λ m. sums_items q m bs ≡ accepted) told_n sums.items)
-          (subst (λ m. item_answer 3 e ≡ name_items (24 + 4 * m) bs) told_n h))
+      reading_rest x h =
+          after _ _ (frame_accepted q w s t bs head) (after _ _ (subst (λ m. sums_items q m bs ≡ accepted) told_n (sums_accepted q n bs code sums))
+          (subst (λ m. x ≡ name_items (24 + 4 * m) bs) told_n h))
 
-      module _ (m : ℕ) (names : NameTold (24 + 4 * n) bs m) where
+      pub reading_name : (e : NumberFault) → item_answer 3 e ≡ name_items (24 + 4 * n) bs → item_answer 3 e ≡ reading q bs
+      reading_name e h = reading_rest (item_answer 3 e) h
+
+      module _ (name : List ℕ) (r : ℕ) (names : NameTold (24 + 4 * n) bs name r) where
         pub reading-all : accepted ≡ reading q bs
-        unfolding reading
-        reading-all =
-            after _ _ head.items (after _ _ (subst (λ m. sums_items q m bs ≡ accepted) told_n sums.items)
-            (subst (λ m. accepted ≡ name_items (24 + 4 * m) bs) told_n (sym names.items)))
+        reading-all = reading_rest accepted (sym (name_accepted (24 + 4 * n) r bs name names))
 
-        pub whole : (name rest : List ℕ) → name ≡ take m (drop (24 + 4 * n + 4) bs) → rest ≡ drop m (drop (24 + 4 * n + 4) bs)
-            → bs ≡ sheet_bytes q f.width f.spare t (told_codes bs n) name ++ rest
-        unfolding sheet_bytes name_bytes
-        whole name rest en er =
-            let x = drop (24 + 4 * n + 4) bs in
-            let long : m ≡ length name = sym (ap length en ∙ length-take-le m x (omega (arith, length-drop (24 + 4 * n + 4) bs, names.whole))) in
-            let parts : drop (24 + 4 * n) bs ≡ word (length name) ++ (name ++ rest) =
-            names.cut ∙ ap (λ k. word k ++ x) long ∙ ap (λ y. word (length name) ++ y) (sym (take-append-drop m x) ∙ ap (λ y. y ++ drop m x) (sym en) ∙ ap (λ y. name ++ y) (sym er)) in
-            let e = head.cut ∙ ap (λ y. frame_bytes q f.width f.spare t ++ y) (sums.cut ∙ ap (λ y. sums_bytes (told_codes bs n) ++ y) parts) in
+        pub whole : bs ≡ sheet_bytes q w s t (told_codes bs n) name ++ drop r bs
+        unfolding sheet_bytes
+        whole =
+            let e = frame_cut q w s t bs head ∙ ap (λ y. frame_bytes q w s t ++ y) (sums_cut q n bs code sums ∙ ap (λ y. sums_bytes (told_codes bs n) ++ y) (name_cut (24 + 4 * n) r bs name names)) in
             simp append_assoc e
 
-        pub letter_at : (name : List ℕ) → name ≡ take m (drop (24 + 4 * n + 4) bs) → (k : ℕ) → k < m → get_or bs (24 + 4 * n + 4 + k) 0 ≡ get_or name k 0
-        letter_at name en k h = sym (get_or-drop (24 + 4 * n + 4) bs k 0) ∙ sym (get_or-take m (drop (24 + 4 * n + 4) bs) k 0 h) ∙ ap (λ y. get_or y k 0) (sym en)
-
-        pub taken_all : {V : Type 0} (at : ℕ → V) (name rest : List ℕ) (c : Contents V) → name ≡ take m (drop (24 + 4 * n + 4) bs) → rest ≡ drop m (drop (24 + 4 * n + 4) bs)
-            → c.width ≡ f.width → c.spare ≡ f.spare → c.turnover ≡ t → ((k : ℕ) → k < 96 → c.sum k ≡ at (code_at codes k)) → Taken q at bs name rest c
-        taken_all at name rest c en er ew es et sum =
-            let all = whole name rest en er in
-            let ok = f.ok in
+        pub taken_all : {V : Type 0} (at : ℕ → V) (c : Contents V) → 1 ≤ q → c.width ≡ w → c.spare ≡ s → c.turnover ≡ t → ((k : ℕ) → k < 96 → c.sum k ≡ at (code k))
+            → Taken q at bs name (drop r bs) c
+        taken_all at c some ew es et sum =
+            let all = whole in
             let count-is : 2 * c.width + c.spare ≡ n = omega (arith, total) in
             let same = ap (told_codes bs) count-is in
-            let long : length name ≡ m = ap length en ∙ length-take-le m (drop (24 + 4 * n + 4) bs) (omega (arith, length-drop (24 + 4 * n + 4) bs, names.whole)) in
-            let small : (k : ℕ) → k < count c → get_or (told_codes bs (count c)) k 0 < q = λ k h. subst (λ v. v < q) (sym (told_at bs (count c) k h)) (sums.small k (omega arith)) in
+            let small : (k : ℕ) → k < count c → get_or (told_codes bs (count c)) k 0 < q = λ k h.
+            let g = sums.codes k (omega arith) in
+            let below : code k < q = omega (arith, g.high) in
+            subst (λ v. v < q) (g.is ∙ sym (told_at bs (count c) k h)) below in
             record {
               whole = cc;
               sound = record {
-                framed = record { some = omega (arith, ok.0); width = omega (arith, ok.1); spare = omega (arith, ok.2) };
-                turnover = subst (λ v. v ≤ (q - 1) / 4) (sym et) head.limit;
+                framed = record { some = omega (arith, head.width.low); width = omega (arith, head.width.high); spare = omega (arith, head.spare.high) };
+                turnover = subst (λ v. v ≤ (q - 1) / 4) (sym et) head.turnover.high;
                 coded = record { long = told_long bs (count c); small = small };
-                named = record {
-                  most = omega (arith, names.most);
-                  letters = λ k h.
-                      let l : k < m = omega arith in
-                      let here = letter_at name en k l in
-                      let good = names.letters k l in
-                      (subst (λ v. 32 ≤ v) here good.0, subst (λ v. v ≤ 126) here good.1);
-                };
+                named = names.named;
               };
               coded = record {
                 coded = record { long = told_long bs (count c); small = small };
                 means = λ k h.
                     let l : k < n = omega arith in
-                    ap at (told_at bs (count c) k h ∙ sym (sums.codes k l)) ∙ sym (sum k (omega (arith, ok.1, ok.2)));
+                    ap at (told_at bs (count c) k h ∙ sym (sums.codes k l).is) ∙ sym (sum k (omega (arith, head.width.high, head.spare.high)));
               };
             }

@@ -1,6 +1,6 @@
 -- A number and its 4 bytes.
-use Rattle.std.proofs.Common.{◌≡◌, ℕ, ◌+◌, ◌*◌, ◌/◌, ◌%◌, ◌^◌, ◌<◌, ◌≤◌, List, [], ◌∷◌, ◌++◌, length, get_or, drop, sym, refl, ap, ◌∙◌, mod-eq_of_lt, arith}
-use Rattle.std.proofs.lemmas.List.{drop_more}
+use Rattle.std.proofs.Common.{◌≡◌, ℕ, ◌+◌, ◌*◌, ◌/◌, ◌%◌, ◌^◌, ◌<◌, ◌≤◌, List, [], ◌∷◌, ◌++◌, length, get_or, take, drop, sym, refl, ap, ◌∙◌, add-zero, mod-eq_of_lt, arith}
+use Rattle.std.proofs.lemmas.List.{take-append-drop, drop-drop, get_or-drop, length-drop, length-take-le}
 use Rattle.std.proofs.lemmas.Nat.{shr-shr}
 use Rattle.sheet.specs.Sheets.{word, number_at}
 
@@ -35,21 +35,35 @@ pub word_long : (n : ℕ) → length (word n) ≡ 4
 unfolding word
 word_long n = refl
 
--- the bytes from a place on begin with the number there
-pub word_first : (bs : List ℕ) (p : ℕ) → p + 4 ≤ length bs → get_or bs p 0 < 256 → get_or bs (p + 1) 0 < 256 → get_or bs (p + 2) 0 < 256 → get_or bs (p + 3) 0 < 256
-    → drop p bs ≡ word (number_at bs p) ++ drop (p + 4) bs
+pub number-drop : (bs : List ℕ) (p : ℕ) → number_at bs p ≡ number_at (drop p bs) 0
 unfolding number_at
-word_first bs p l ha hb hc hd =
-    let w = bytes_of _ _ _ _ ha hb hc hd in
-    let d0 = drop_more bs p 0 (omega arith) in
-    let d1 = drop_more bs (p + 1) 0 (omega arith) in
-    let d2 = drop_more bs (p + 2) 0 (omega arith) in
-    let d3 = drop_more bs (p + 3) 0 (omega arith) in
-    let e1 : p + 1 + 1 ≡ p + 2 = omega arith in
-    let e2 : p + 2 + 1 ≡ p + 3 = omega arith in
-    let e3 : p + 3 + 1 ≡ p + 4 = omega arith in
-    let k1 = ap (λ n. drop n bs) e1 in
-    let k2 = ap (λ n. drop n bs) e2 in
-    let k3 = ap (λ n. drop n bs) e3 in
-    let all : drop p bs ≡ get_or bs p 0 ∷ get_or bs (p + 1) 0 ∷ get_or bs (p + 2) 0 ∷ get_or bs (p + 3) 0 ∷ drop (p + 4) bs = cc in
-    all ∙ sym (ap (λ l. l ++ drop (p + 4) bs) w)
+number-drop bs p = simp (get_or-drop, add-zero)
+
+number-take : (bs : List ℕ) → number_at (take 4 bs) 0 ≡ number_at bs 0
+unfolding number_at
+number-take [] = refl
+number-take (a ∷ []) = refl
+number-take (a ∷ b ∷ []) = refl
+number-take (a ∷ b ∷ c ∷ []) = refl
+number-take (a ∷ b ∷ c ∷ d ∷ bs) = refl
+
+word-number : (xs : List ℕ) → length xs ≡ 4 → ((k : ℕ) → get_or xs k 0 < 256) → word (number_at xs 0) ≡ xs
+unfolding number_at
+word-number [] e h = let none : ⊥ = omega arith in absurd none
+word-number (a ∷ []) e h = let none : ⊥ = omega arith in absurd none
+word-number (a ∷ b ∷ []) e h = let none : ⊥ = omega arith in absurd none
+word-number (a ∷ b ∷ c ∷ []) e h = let none : ⊥ = omega arith in absurd none
+word-number (a ∷ b ∷ c ∷ d ∷ []) e h = bytes_of a b c d (h 0) (h 1) (h 2) (h 3)
+word-number (a ∷ b ∷ c ∷ d ∷ f ∷ xs) e h = let none : ⊥ = omega arith in absurd none
+
+-- four bytes that stand at a place are the number there
+pub number_of_four : (bs : List ℕ) (p : ℕ) (xs : List ℕ) → xs ≡ take 4 (drop p bs) → number_at bs p ≡ number_at xs 0
+number_of_four bs p xs e = number-drop bs p ∙ sym (number-take (drop p bs)) ∙ ap (λ x. number_at x 0) (sym e)
+
+-- the bytes from a place on begin with the number there
+pub word_first : (bs : List ℕ) (p : ℕ) (xs : List ℕ) → xs ≡ take 4 (drop p bs) → p + 4 ≤ length bs → ((k : ℕ) → get_or xs k 0 < 256)
+    → drop p bs ≡ word (number_at bs p) ++ drop (p + 4) bs
+word_first bs p xs e l h =
+    let long : length xs ≡ 4 = ap length e ∙ length-take-le 4 (drop p bs) (omega (arith, length-drop p bs)) in
+    let w : word (number_at bs p) ≡ take 4 (drop p bs) = ap word (number_of_four bs p xs e) ∙ word-number xs long h ∙ e in
+    sym (take-append-drop 4 (drop p bs)) ∙ ap (λ x. x ++ drop 4 (drop p bs)) (sym w) ∙ ap (λ x. word (number_at bs p) ++ x) (drop-drop 4 p bs)

@@ -1,4 +1,4 @@
 pub mod Faults
 pub mod Sheets
-pub mod Sections
 pub mod Reads
+pub mod Sections

@@ -1,40 +1,43 @@
--- What the sections of a sheet told when each of their items was good.
-use Rattle.std.specs.Prelude.{◌≡◌, ℕ, ◌+◌, ◌-◌, ◌*◌, ◌/◌, ◌<◌, ◌≤◌, List, ◌++◌, length, take, drop, slice_index}
-use Rattle.algebra.specs.Refusals.{accepted}
-use Rattle.algebra.specs.declared.code.Code.{Code}
-use Rattle.std.specs.List.{flat_map}
-use Rattle.tally.specs.Access.{code_at}
+-- What a section of a sheet tells where each of its items is good, what its reader answers where one is not, and what is written.
+use Rattle.std.specs.Prelude.{◌≡◌, ℕ, ◌+◌, ◌-◌, ◌*◌, ◌/◌, ◌<◌, ◌≤◌, Bool, false, ◌⊎◌, List, ◌++◌, length, take, drop}
 use Rattle.tally.specs.Contents.{Contents}
-use Rattle.tally.specs.declared.frame.Frame.{Frame}
-use Rattle.sheet.specs.Sheets.{frame_items, frame_bytes, sums_items, sums_bytes, name_items, number_at, told_codes, word}
+use Rattle.sheet.specs.declared.fault.NumberFault.{NumberFault}
+use Rattle.sheet.specs.declared.fault.NumberFault.TheVariants.{Cut}
+use Rattle.sheet.specs.Reads.{Named, CodesOf}
+use Rattle.sheet.specs.Sheets.{sums_bytes, Good}
 
-pub record FrameTold (q : ℕ) (bs : List ℕ) (f : Frame) (t : ℕ) : Type 0 where
-  pub items : frame_items q bs ≡ accepted
-  pub width : f.width ≡ number_at bs 8
-  pub spare : f.spare ≡ number_at bs 12
-  pub turnover : t ≡ number_at bs 16
-  pub limit : t ≤ (q - 1) / 4
-  pub cut : bs ≡ frame_bytes q f.width f.spare t ++ drop 20 bs
+-- the section of the frame
+pub record FrameTold (q : ℕ) (bs : List ℕ) (w s t : ℕ) : Type 0 where
+  pub count : Good bs 0 4 4 4
+  pub order : Good bs 4 q q q
+  pub width : Good bs 8 1 32 w
+  pub spare : Good bs 12 0 32 s
+  pub turnover : Good bs 16 0 ((q - 1) / 4) t
 
-pub record SumsTold (q n : ℕ) (bs : List ℕ) (before after : List Code) : Type 0 where
-  pub items : sums_items q n bs ≡ accepted
-  pub codes : (k : ℕ) → k < n → code_at after k ≡ number_at bs (24 + 4 * k)
-  pub small : (k : ℕ) → k < n → number_at bs (24 + 4 * k) < q
-  pub past : drop n after ≡ drop n before
-  pub cut : drop 20 bs ≡ sums_bytes (told_codes bs n) ++ drop (24 + 4 * n) bs
+-- the section of n sums, whose codes are `code`
+pub record SumsTold (q n : ℕ) (bs : List ℕ) (code : ℕ → ℕ) : Type 0 where
+  pub count : Good bs 20 n n n
+  pub codes : (k : ℕ) → k < n → Good bs (24 + 4 * k) 0 (q - 1) (code k)
 
-pub record NameTold (p : ℕ) (bs : List ℕ) (n : ℕ) : Type 0 where
-  pub items : name_items p bs ≡ accepted
-  pub is : n ≡ number_at bs p
-  pub most : n ≤ 40
-  pub whole : p + 4 + n ≤ length bs
-  pub cut : drop p bs ≡ word n ++ drop (p + 4) bs
-  pub letters : (k : ℕ) → k < n → (32 ≤ slice_index bs (p + 4 + k)) × (slice_index bs (p + 4 + k) ≤ 126)
+-- the section of the job name, from place p to place r
+pub record NameTold (p : ℕ) (bs name : List ℕ) (r : ℕ) : Type 0 where
+  pub count : Good bs p 0 40 (length name)
+  pub named : Named name
+  pub cut : drop (p + 4) bs ≡ name ++ drop r bs
 
--- the codes of the first k sums stand from place 24 on, and the rest is as it was
-pub record SumsPut {V : Type 0} (q : ℕ) (at : ℕ → V) (c : Contents V) (before after : List ℕ) (k : ℕ) : Type 0 where
+-- an item of `size` bytes at a place was refused: the bytes end before it does, or it is not good, and the fault is as told
+pub record Refused (told : NumberFault → Type 0) (bs : List ℕ) (place size : ℕ) (good : Bool) (e : NumberFault) : Type 0 where
+  pub why : ((length bs < place + size) × (e ≡ Cut place)) ⊎ ((place + size ≤ length bs) × (good ≡ false) × told e)
+
+-- bytes were put from place p to place r, and all other bytes are as they were
+pub record Puts (bytes before : List ℕ) (p : ℕ) (after : List ℕ) (r : ℕ) : Type 0 where
+  pub place : r ≡ p + length bytes
+  pub long : length after ≡ length before
+  pub front : take r after ≡ take p before ++ bytes
+  pub back : drop r after ≡ drop r before
+
+-- the section of the sums was put, with codes of all sums
+pub record SumsPut {V : Type 0} (q : ℕ) (at : ℕ → V) (c : Contents V) (before : List ℕ) (p : ℕ) (after : List ℕ) (r : ℕ) : Type 0 where
   pub codes : List ℕ
-  pub long : length codes ≡ k
-  pub small : (j : ℕ) → j < k → slice_index codes j < q
-  pub means : (j : ℕ) → j < k → at (slice_index codes j) ≡ c.sum j
-  pub is : after ≡ (take 24 before ++ flat_map word codes) ++ drop (24 + 4 * k) before
+  pub coded : CodesOf q at c codes
+  pub puts : Puts (sums_bytes codes) before p after r

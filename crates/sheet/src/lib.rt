@@ -4,14 +4,11 @@
 
 mod check_name;
 pub mod fault;
-mod faults;
 mod frame_section;
-mod head;
+mod letter;
 mod name_section;
-mod numbers;
-mod put;
-mod put_sums;
 pub mod read;
+mod reader;
 mod sums_section;
-mod told;
 pub mod write;
+mod writer;

@@ -5,9 +5,8 @@ ghost use Rattle.sheet.specs.Sheets.{reading};
 ghost use Rattle.sheet.specs.Reads.{Taken, ReadsBack, ReadsLog};
 
 use crate::fault::SheetFault;
-use crate::frame_section::read_frame;
-use crate::name_section::read_name;
-use crate::sums_section::read_sums;
+use crate::reader::Reader;
+use crate::sums_section::MOST_SUMS;
 use algebra::code::Code;
 use algebra::field::Field;
 use tally::closed::Closed;
@@ -24,13 +23,13 @@ pub fn read<'a, F: Field>(
     ensures logged { ReadsLog F.Ring.ring F.Field.order (element F.Ring F.Field.own) bytes.now result (contents F.Ring tally.new) }
 {
     let order = F::size();
-    let head = read_frame(bytes, order)?;
-    let count = head.frame.count();
-    let mut codes = [Code(0); 96];
-    read_sums(bytes, order, count as u32, &mut codes)?;
-    let place = 24 + 4 * count;
-    let long = read_name(bytes, place)?;
-    tally.restore(head.frame, head.turnover, &codes);
-    let (_sheet, after) = bytes.split_at(place + 4);
-    Ok(after.split_at(long))
+    let mut reader = Reader::new(bytes);
+    let (frame, turnover) = reader.frame(order)?;
+    // the library allocates nothing, so there is room for the codes of any frame
+    let mut room = [Code(0); MOST_SUMS];
+    let codes = &mut room[..frame.count()];
+    reader.sums(order, codes)?;
+    let name = reader.name()?;
+    tally.restore(frame, turnover, codes);
+    Ok((name, reader.rest()))
 }

@@ -6,8 +6,7 @@ ghost use Rattle.sheet.specs.Sheets.{writing};
 ghost use Rattle.sheet.specs.Reads.{Written, WritesAgain};
 
 use crate::check_name::check_name;
-use crate::put::{put, put_frame, put_name};
-use crate::put_sums::put_sums;
+use crate::writer::Writer;
 use algebra::field::{Field, field_laws};
 use algebra::refusal::Refusal;
 use tally::closed::Closed;
@@ -21,14 +20,13 @@ pub fn write<F: Field>(tally: &Closed<F>, name: &[u8], out: &mut [u8]) -> Result
     check_name(name)?;
     let order = field_laws::<F>();
     let frame = tally.frame();
-    let sums = frame.count();
-    let needed = 4 * (7 + sums) + name.len();
+    let needed = 4 * (7 + frame.count()) + name.len();
     if out.len() < needed {
         return Err(Refusal::Short(needed));
     }
-    put_frame(out, order, frame, tally.turnover());
-    put(out, 20, sums as u32);
-    put_sums(out, tally);
-    put_name(out, 24 + 4 * sums, name);
+    let mut writer = Writer::new(out);
+    writer.frame(order, frame, tally.turnover());
+    writer.sums(tally);
+    writer.name(name);
     Ok(needed)
 }

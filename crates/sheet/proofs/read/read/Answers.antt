@@ -1,99 +1,102 @@
-use Rattle.std.proofs.Common.{◌≡◌, take, drop, Ok, refl, ap, ◌∙◌, subst, MatchResult}
-use Rattle.std.proofs.lemmas.Result.{MatchResult-from_err}
+use Rattle.std.proofs.Common.{◌≡◌, ◌+◌, ◌*◌, drop, Ok, sym, ap, ◌∙◌, subst, refl, arith}
+use Rattle.std.proofs.lemmas.List.{length-take-le}
 use Rattle.algebra.specs.Refusals.{accepted}
+use Rattle.tally.specs.Access.{code_at}
 use Rattle.tally.specs.Bodies.{contents, element}
-use Rattle.sheet.specs.declared.fault.SheetFault.{SheetFault}
 use Rattle.sheet.specs.declared.fault.SheetFault.TheVariants.{Frame, Sums, Job}
-use Rattle.sheet.specs.Faults.{item_answer, sheet_reply}
-use Rattle.sheet.specs.Sheets.{frame_items, sums_items, reading}
-use Rattle.sheet.specs.Sections.{FrameTold, SumsTold}
+use Rattle.sheet.specs.Faults.{item_answer}
+use Rattle.sheet.specs.Sheets.{frame_items, sums_items, name_items, reading}
+use Rattle.sheet.specs.Sections.{FrameTold, SumsTold, NameTold}
 use Rattle.sheet.specs.Reads.{Taken}
 use Rattle.sheet.proofs.Readings.{sheet_exits, reading_frame, reading_sums, reading_name, reading-all, taken_all}
-use Rattle.sheet.proofs.Laws.{Parts, Read, both_laws}
+use Rattle.sheet.proofs.Laws.{refused_laws, both_laws}
 use Rattle.sheet.proofs.read.read.Goals as goal
 
-pub returns-in_err-head : goal.returns-in_err-head
-returns-in_err-head g c =
+pub returns-in_err-frame : goal.returns-in_err-frame
+returns-in_err-frame g c =
     let q = g.F.Field.order in
-    let at = element g.F.Ring g.F.Field in
     let bs = c.args.bytes.now in
-    let k = contents g.F.Ring c.args.tally.now in
+    let e = c.in_err-frame.field-0.0 in
     let r = c.from_residual.result in
-    let e = c.in_err-head.field-0.0 in
-    let is = c.size-order.ensures.answer in
-    let told : item_answer 1 e.0 ≡ frame_items q bs = subst (λ m. item_answer 1 e.0 ≡ frame_items m bs) is c.in_err-head.ensures in
-    let answers : sheet_reply r ≡ reading q bs = sheet_exits (Frame e) (reading q bs) r c.from_residual.ensures.1 (reading_frame q bs e.0 told) in
-    let Q : SheetFault → Type 0 = λ _. c.args.tally.now ≡ c.args.tally.now in
-    let taken : MatchResult r (Read g.F.Ring.ring q at bs k) Q = MatchResult-from_err r (Read g.F.Ring.ring q at bs k) Q c.from_residual.ensures.0 (λ y. refl) in
-    let laws = both_laws g.F.Ring.ring q at bs k c.size-order.ensures.bounded Q r answers taken in
-    record { answers = answers; taken = taken; back = laws.0; logged = laws.1 }
+    let told : item_answer 1 e.0 ≡ frame_items q bs =
+    c.in_err-frame.ensures.answers ∙ ap (λ m. frame_items m c.new-reader.result.bytes.now) c.size-order.ensures.answer ∙ ap (frame_items q) c.new-reader.ensures.bytes in
+    let answers = sheet_exits (Frame e) (reading q bs) r c.from_residual.ensures.1 (reading_frame q bs e.0 told) in
+    let laws = refused_laws g.F.Ring.ring q (element g.F.Ring g.F.Field) bs (contents g.F.Ring c.args.tally.now) c.size-order.ensures.bounded (λ _. c.args.tally.now ≡ c.args.tally.now) (λ _. refl) r c.from_residual.ensures.0 answers in
+    record { answers = answers; taken = laws.0; back = laws.1; logged = laws.2 }
 
-pub returns-in_err-read_sums : goal.returns-in_err-read_sums
-returns-in_err-read_sums g c =
+pub returns-in_err-sums : goal.returns-in_err-sums
+returns-in_err-sums g c =
     let q = g.F.Field.order in
-    let at = element g.F.Ring g.F.Field in
     let bs = c.args.bytes.now in
-    let k = contents g.F.Ring c.args.tally.now in
-    let r = c.from_residual-in_err-read_sums.result in
-    let e = c.in_err-read_sums.field-0.0 in
+    let n = c.count.result in
+    let f = c.in_ok-frame.frame in
+    let t = c.in_ok-frame.turnover in
+    let e = c.in_err-sums.field-0.0 in
+    let r = c.from_residual-in_err-sums.result in
     let is = c.size-order.ensures.answer in
-    let f = c.in_ok-head.head.frame in
-    let t = c.in_ok-head.head.turnover in
-    let head : FrameTold q bs f t = subst (λ m. FrameTold m bs f t) is c.in_ok-head.ensures in
-    let n = c.count-count.result in
-    let told : item_answer 2 e.0 ≡ sums_items q n bs = subst (λ m. item_answer 2 e.0 ≡ sums_items m n bs) is c.in_err-read_sums.ensures in
-    let answers : sheet_reply r ≡ reading q bs =
-    sheet_exits (Sums e) (reading q bs) r c.from_residual-in_err-read_sums.ensures.1 (reading_sums q bs f t n head c.count-count.ensures e.0 told) in
-    let Q : SheetFault → Type 0 = λ _. c.args.tally.now ≡ c.args.tally.now in
-    let taken : MatchResult r (Read g.F.Ring.ring q at bs k) Q = MatchResult-from_err r (Read g.F.Ring.ring q at bs k) Q c.from_residual-in_err-read_sums.ensures.0 (λ y. refl) in
-    let laws = both_laws g.F.Ring.ring q at bs k c.size-order.ensures.bounded Q r answers taken in
-    record { answers = answers; taken = taken; back = laws.0; logged = laws.1 }
+    let begun = c.new-reader.ensures.bytes in
+    let head : FrameTold q bs f.width f.spare t =
+    subst (λ x. FrameTold q x f.width f.spare t) begun (subst (λ m. FrameTold m c.new-reader.result.bytes.now f.width f.spare t) is c.in_ok-frame.ensures.answers.1) in
+    let told : item_answer 2 e.0 ≡ sums_items q n bs =
+    c.in_err-sums.ensures.answers ∙ ap (λ m. sums_items c.size-order.result m c.frame.new.self.bytes.now) (length-take-le n _ (omega (arith, c.count.ensures, f.ok)))
+    ∙ ap (λ m. sums_items m n c.frame.new.self.bytes.now) is ∙ ap (sums_items q n) (c.frame.ensures.same ∙ begun) in
+    let answers = sheet_exits (Sums e) (reading q bs) r c.from_residual-in_err-sums.ensures.1 (reading_sums q bs f.width f.spare t n head c.count.ensures e.0 told) in
+    let laws = refused_laws g.F.Ring.ring q (element g.F.Ring g.F.Field) bs (contents g.F.Ring c.args.tally.now) c.size-order.ensures.bounded (λ _. c.args.tally.now ≡ c.args.tally.now) (λ _. refl) r c.from_residual-in_err-sums.ensures.0 answers in
+    record { answers = answers; taken = laws.0; back = laws.1; logged = laws.2 }
 
-pub returns-in_err-long : goal.returns-in_err-long
-returns-in_err-long g c =
+pub returns-in_err-name : goal.returns-in_err-name
+returns-in_err-name g c =
     let q = g.F.Field.order in
-    let at = element g.F.Ring g.F.Field in
     let bs = c.args.bytes.now in
-    let k = contents g.F.Ring c.args.tally.now in
-    let r = c.from_residual-in_err-long.result in
-    let e = c.in_err-long.field-0.0 in
+    let n = c.count.result in
+    let f = c.in_ok-frame.frame in
+    let t = c.in_ok-frame.turnover in
+    let codes = c.sums.new.codes in
+    let e = c.in_err-name.field-0.0 in
+    let r = c.from_residual-in_err-name.result in
     let is = c.size-order.ensures.answer in
-    let f = c.in_ok-head.head.frame in
-    let t = c.in_ok-head.head.turnover in
-    let head : FrameTold q bs f t = subst (λ m. FrameTold m bs f t) is c.in_ok-head.ensures in
-    let n = c.count-count.result in
-    let sums : SumsTold q n bs _ c.read_sums.new.codes = subst (λ m. SumsTold m n bs _ c.read_sums.new.codes) is c.in_ok-read_sums.ensures in
-    let answers : sheet_reply r ≡ reading q bs =
-    sheet_exits (Job e) (reading q bs) r c.from_residual-in_err-long.ensures.1
-    (reading_name q bs f t n head c.count-count.ensures _ c.read_sums.new.codes sums e.0 c.in_err-long.ensures) in
-    let Q : SheetFault → Type 0 = λ _. c.args.tally.now ≡ c.args.tally.now in
-    let taken : MatchResult r (Read g.F.Ring.ring q at bs k) Q = MatchResult-from_err r (Read g.F.Ring.ring q at bs k) Q c.from_residual-in_err-long.ensures.0 (λ y. refl) in
-    let laws = both_laws g.F.Ring.ring q at bs k c.size-order.ensures.bounded Q r answers taken in
-    record { answers = answers; taken = taken; back = laws.0; logged = laws.1 }
+    let begun = c.new-reader.ensures.bytes in
+    let head : FrameTold q bs f.width f.spare t =
+    subst (λ x. FrameTold q x f.width f.spare t) begun (subst (λ m. FrameTold m c.new-reader.result.bytes.now f.width f.spare t) is c.in_ok-frame.ensures.answers.1) in
+    let many = length-take-le n _ (omega (arith, c.count.ensures, f.ok)) in
+    let sums : SumsTold q n bs (code_at codes) =
+    subst (λ x. SumsTold q n x (code_at codes)) (c.frame.ensures.same ∙ begun) (subst (λ m. SumsTold m n c.frame.new.self.bytes.now (code_at codes)) is
+    (subst (λ m. SumsTold c.size-order.result m c.frame.new.self.bytes.now (code_at codes)) many c.in_ok-sums.ensures.answers.1)) in
+    let place : c.sums.new.self.place ≡ 24 + 4 * n = c.in_ok-sums.ensures.answers.0 ∙ ap (λ m. 24 + 4 * m) many in
+    let told : item_answer 3 e.0 ≡ name_items (24 + 4 * n) bs =
+    c.in_err-name.ensures.answers ∙ ap (λ p. name_items p c.sums.new.self.bytes.now) place ∙ ap (name_items (24 + 4 * n)) (c.sums.ensures.same ∙ c.frame.ensures.same ∙ begun) in
+    let answers = sheet_exits (Job e) (reading q bs) r c.from_residual-in_err-name.ensures.1 (reading_name q bs f.width f.spare t n head c.count.ensures (code_at codes) sums e.0 told) in
+    let laws = refused_laws g.F.Ring.ring q (element g.F.Ring g.F.Field) bs (contents g.F.Ring c.args.tally.now) c.size-order.ensures.bounded (λ _. c.args.tally.now ≡ c.args.tally.now) (λ _. refl) r c.from_residual-in_err-name.ensures.0 answers in
+    record { answers = answers; taken = laws.0; back = laws.1; logged = laws.2 }
 
 pub returns : goal.returns
 returns g c =
     let q = g.F.Field.order in
     let at = element g.F.Ring g.F.Field in
     let bs = c.args.bytes.now in
+    let n = c.count.result in
+    let f = c.in_ok-frame.frame in
+    let t = c.in_ok-frame.turnover in
+    let codes = c.sums.new.codes in
+    let name = c.in_ok-name.name in
+    let end = c.name.new.self.place in
     let k = contents g.F.Ring c.restore.new.self in
-    let p : Parts = c.split_at-2.result in
     let is = c.size-order.ensures.answer in
-    let f = c.in_ok-head.head.frame in
-    let t = c.in_ok-head.head.turnover in
-    let head : FrameTold q bs f t = subst (λ m. FrameTold m bs f t) is c.in_ok-head.ensures in
-    let n = c.count-count.result in
-    let codes = c.read_sums.new.codes in
-    let m = c.in_ok-long.long in
-    let sums : SumsTold q n bs _ codes = subst (λ m. SumsTold m n bs _ codes) is c.in_ok-read_sums.ensures in
-    let names = c.in_ok-long.ensures in
-    let total = c.count-count.ensures in
-    let answers : accepted ≡ reading q bs = reading-all q bs f t n head total _ codes sums m names in
-    let cut = c.split_at.ensures.back in
-    let taken : Taken q at bs p.0.now p.1.now k =
-    taken_all q bs f t n head total _ codes sums m names at p.0.now p.1.now k
-    (c.split_at-2.ensures.front ∙ ap (take m) cut) (c.split_at-2.ensures.back ∙ ap (drop m) cut)
-    (ap (λ x. x.width) c.restore.ensures.framed) (ap (λ x. x.spare) c.restore.ensures.framed) c.restore.ensures.turned c.restore.ensures.sums in
-    let Q : SheetFault → Type 0 = λ _. k ≡ k in
-    let laws = both_laws g.F.Ring.ring q at bs k c.size-order.ensures.bounded Q (Ok p) answers taken in
+    let begun = c.new-reader.ensures.bytes in
+    let head : FrameTold q bs f.width f.spare t =
+    subst (λ x. FrameTold q x f.width f.spare t) begun (subst (λ m. FrameTold m c.new-reader.result.bytes.now f.width f.spare t) is c.in_ok-frame.ensures.answers.1) in
+    let many = length-take-le n _ (omega (arith, c.count.ensures, f.ok)) in
+    let framed = c.frame.ensures.same ∙ begun in
+    let sums : SumsTold q n bs (code_at codes) =
+    subst (λ x. SumsTold q n x (code_at codes)) framed (subst (λ m. SumsTold m n c.frame.new.self.bytes.now (code_at codes)) is
+    (subst (λ m. SumsTold c.size-order.result m c.frame.new.self.bytes.now (code_at codes)) many c.in_ok-sums.ensures.answers.1)) in
+    let place : c.sums.new.self.place ≡ 24 + 4 * n = c.in_ok-sums.ensures.answers.0 ∙ ap (λ m. 24 + 4 * m) many in
+    let names : NameTold (24 + 4 * n) bs name.now end =
+    subst (λ p. NameTold p bs name.now end) place (subst (λ x. NameTold c.sums.new.self.place x name.now end) (c.sums.ensures.same ∙ framed) c.in_ok-name.ensures.answers) in
+    let rest : c.rest.result.now ≡ drop end bs = c.rest.ensures ∙ ap (drop end) (c.name.ensures.same ∙ c.sums.ensures.same ∙ framed) in
+    let answers : accepted ≡ reading q bs = reading-all q bs f.width f.spare t n head c.count.ensures (code_at codes) sums name.now end names in
+    let taken : Taken q at bs name.now c.rest.result.now k =
+    subst (λ x. Taken q at bs name.now x k) (sym rest) (taken_all q bs f.width f.spare t n head c.count.ensures (code_at codes) sums name.now end names at k (omega (arith, c.size-order.ensures.bounded))
+    (ap (λ x. x.width) c.restore.ensures.framed) (ap (λ x. x.spare) c.restore.ensures.framed) c.restore.ensures.turned c.restore.ensures.sums) in
+    let laws = both_laws g.F.Ring.ring q at bs k c.size-order.ensures.bounded (λ _. k ≡ k) (Ok (name, c.rest.result)) answers taken in
     record { answers = answers; taken = taken; back = laws.0; logged = laws.1 }

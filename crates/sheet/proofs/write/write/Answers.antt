@@ -1,11 +1,13 @@
-use Rattle.std.proofs.Common.{◌≡◌, ◌+◌, ◌*◌, ◌++◌, length, take, drop, sym, refl, ap, ◌∙◌, arith}
+use Rattle.std.proofs.Common.{◌≡◌, ◌+◌, ◌*◌, length, sym, refl, ap, subst, rules, ◌∙◌, arith}
 use Rattle.std.proofs.lemmas.Result.{err_from_is_err_and}
 use Rattle.algebra.specs.Refusals.{answer}
 use Rattle.tally.specs.Bodies.{contents, element}
 use Rattle.tally.specs.Contents.{count}
-use Rattle.sheet.specs.Sheets.{word, frame_bytes, name_bytes, sheet_long, naming}
+use Rattle.sheet.specs.Sheets.{frame_bytes, naming}
 use Rattle.sheet.specs.Reads.{Written}
-use Rattle.sheet.proofs.Writes.{refusal_stops, refusal_refuses, named_passes, writing-all, written_all, again}
+use Rattle.sheet.specs.Sections.{Puts}
+use Rattle.sheet.proofs.Names.{name_good}
+use Rattle.sheet.proofs.Writes.{refusal_stops, refusal_refuses, frame_long, sums_long, sheet_end, writing-all, written_all, written_as, again}
 use Rattle.sheet.proofs.write.write.Goals as goal
 
 pub returns-in_err-check_name : goal.returns-in_err-check_name
@@ -21,8 +23,21 @@ returns-in_err-check_name g c =
     rw (p.1, p.2) (record {
       answers = refusal_stops e (naming name) _ told;
       written = refl;
-      again = λ bs rest t. absurd (refusal_refuses e (told ∙ sym (named_passes name t.sound.named)));
+      again = λ bs rest t. absurd (refusal_refuses e (told ∙ sym (name_good name t.sound.named)));
     })
+
+pub sums-requires : goal.sums-requires
+sums-requires g c =
+    let f = c.args.tally.now.frame in
+    let total : c.count.result ≡ 2 * f.width + f.spare = c.count.ensures ∙ ap (λ x. 2 * x.width + x.spare) c.frame-frame.ensures in
+    (search rules, omega (arith, frame_long c.field_laws-order.result c.frame-frame.result.width c.frame-frame.result.spare c.turnover.result, ap length c.new-writer.ensures.out))
+
+pub name-requires-clause-room : goal.name-requires-clause-room
+name-requires-clause-room g c =
+    let f = c.args.tally.now.frame in
+    let total : c.count.result ≡ 2 * f.width + f.spare = c.count.ensures ∙ ap (λ x. 2 * x.width + x.spare) c.frame-frame.ensures in
+    let sums = c.sums.ensures.puts in
+    omega (arith, frame_long c.field_laws-order.result c.frame-frame.result.width c.frame-frame.result.spare c.turnover.result, sums_long sums.codes, sums.coded.coded.long, sums.puts.place, sums.puts.long, ap length c.new-writer.ensures.out)
 
 pub returns : goal.returns
 returns g c =
@@ -32,25 +47,26 @@ returns g c =
     let name = c.args.name.now in
     let out = c.args.out.now in
     let f = c.args.tally.now.frame in
-    let total : c.count-sums.result ≡ count k = c.count-sums.ensures ∙ ap (λ x. 2 * x.width + x.spare) c.frame-frame.ensures in
-    let o1 = c.put_frame.new.out in
-    let o2 = c.put.new.out in
-    let o3 = c.put_sums.new.out in
-    let o4 = c.put_name.new.out in
-    let e1 : o1 ≡ frame_bytes q k.width k.spare k.turnover ++ drop 20 out =
-    c.put_frame.ensures
-    ∙ ap (λ x. frame_bytes x c.frame-frame.result.width c.frame-frame.result.spare c.turnover.result ++ drop 20 out) c.field_laws-order.ensures.answer
-    ∙ ap (λ x. frame_bytes q x.width x.spare c.turnover.result ++ drop 20 out) c.frame-frame.ensures
-    ∙ ap (λ x. frame_bytes q f.width f.spare x ++ drop 20 out) c.turnover.ensures in
-    let e2 : o2 ≡ take 20 o1 ++ (word (count k) ++ drop 24 o1) = c.put.ensures ∙ ap (λ x. take 20 o1 ++ (word x ++ drop 24 o1)) total in
-    let e4 : o4 ≡ take (24 + 4 * count k) o3 ++ (name_bytes name ++ drop (24 + 4 * count k + 4 + length name) o3) =
-    c.put_name.ensures ∙ ap (λ x. take (24 + 4 * x) o3 ++ (name_bytes name ++ drop (24 + 4 * x + 4 + length name) o3)) total in
+    let new = c.new-writer.result in
+    let framed = c.frame.new.self in
+    let summed = c.sums.new.self in
+    let done = c.name.new.self in
+    let bytes : frame_bytes c.field_laws-order.result c.frame-frame.result.width c.frame-frame.result.spare c.turnover.result ≡ frame_bytes q k.width k.spare k.turnover =
+    ap (λ x. frame_bytes x c.frame-frame.result.width c.frame-frame.result.spare c.turnover.result) c.field_laws-order.ensures.answer
+    ∙ ap (λ x. frame_bytes q x.width x.spare c.turnover.result) c.frame-frame.ensures ∙ ap (frame_bytes q f.width f.spare) c.turnover.ensures in
+    let begun : Puts (frame_bytes q k.width k.spare k.turnover) new.out.now new.place framed.out.now framed.place =
+    subst (λ ys. Puts ys new.out.now new.place framed.out.now framed.place) bytes c.frame.ensures.puts in
+    let frame : Puts (frame_bytes q k.width k.spare k.turnover) out 0 framed.out.now framed.place =
+    subst (λ p. Puts (frame_bytes q k.width k.spare k.turnover) out p framed.out.now framed.place) c.new-writer.ensures.place
+    (subst (λ x. Puts (frame_bytes q k.width k.spare k.turnover) x new.place framed.out.now framed.place) c.new-writer.ensures.out begun) in
     let named = c.in_ok-check_name.ensures.named in
-    let n = 4 * (7 + c.count-sums.result) + length name in
-    let long : n ≡ sheet_long (count k) (length name) = omega arith in
-    let written : Written q at k name out o4 n = written_all q at k name out o1 o2 o3 o4 e1 e2 c.put_sums.ensures e4 c.field_laws-order.ensures.laws.coded.once named n long in
+    let total : c.count.result ≡ count k = c.count.ensures ∙ ap (λ x. 2 * x.width + x.spare) c.frame-frame.ensures in
+    let n = 4 * (7 + c.count.result) + length name in
+    let long : done.place ≡ n = sheet_end q at k name out framed.out.now summed.out.now done.out.now framed.place summed.place done.place frame c.sums.ensures.puts c.name.ensures.puts ∙ omega arith in
+    let written : Written q at k name out done.out.now n = subst (Written q at k name out done.out.now) long
+    (written_all q at k name out framed.out.now summed.out.now done.out.now framed.place summed.place done.place frame c.sums.ensures.puts c.name.ensures.puts c.field_laws-order.ensures.laws.coded.once named) in
     record {
       answers = writing-all (count k) (length out) name c.in_ok-check_name.ensures.answers (omega arith);
-      written = written;
-      again = λ bs rest t. again q at k name out o4 bs rest n written t;
+      written = written_as q at k name out done.out.now _ n written (search rules);
+      again = λ bs rest t. again q at k name out _ bs rest n (written_as q at k name out done.out.now _ n written (search rules)) t;
     }
