@@ -4,3 +4,4 @@ pub mod Rows
 pub mod Split
 pub mod Refused
 pub mod Hex
+pub mod Made

@@ -2,6 +2,7 @@
 use Rattle.std.proofs.Common.{◌≡◌, ℕ, ◌+◌, ◌<◌, ◌≤◌, List, [], ◌∷◌, ◌++◌, map, length, get_or, take, drop, Some, None, Option, sym, refl, ap, ◌∙◌, append_assoc, append-nil}
 use Rattle.std.proofs.lemmas.List.{at_drop_more, at_drop_all, map_push, map_more, flat_map_more}
 use Rattle.std.proofs.ByRecursion.{All-push}
+use Rattle.std.specs.List.{AllZip}
 use Rattle.text.specs.Numbers.{both, put_first, all_of}
 use Rattle.text.specs.Elements.{Named, Shown}
 
@@ -42,6 +43,14 @@ module _ {X Y : Type 0} (f : X → Option Y) where
   so_all row i read l so = so ∙ ap (onto read) (at_drop_all (all_of f) row i l) ∙ ap Some (append-nil read)
 
 module _ {N S V : Type 0} (value : S → V) (canonical : S → Type 0) (of : N → V) where
+  pub named_zip : (names : List N) (xs : List S) → AllZip (λ n x. (value x ≡ of n) × canonical x) names xs → Named value canonical of names xs
+  named_zip [] [] z = record { means = refl; held = tt }
+  named_zip [] (x ∷ xs) z = absurd z
+  named_zip (n ∷ names) [] z = absurd z
+  named_zip (n ∷ names) (x ∷ xs) z =
+      let rest = named_zip names xs z.1 in
+      record { means = cc (z.0.0, rest.means); held = (z.0.1, rest.held) }
+
   pub named_more : (names : List N) (i : ℕ) (xs : List S) (x : S) (d : N) → i < length names → value x ≡ of (get_or names i d) → canonical x → Named value canonical of (take i names) xs → Named value canonical of (take (i + 1) names) (xs ++ (x ∷ []))
   named_more names i xs x d l e h old = record {
     means = map_push value xs x ∙ ap (λ vs. vs ++ (value x ∷ [])) old.means ∙ ap (λ v. map of (take i names) ++ (v ∷ [])) e ∙ sym (map_more of names i d l);

@@ -15,18 +15,14 @@ pub fn number(word: &str) -> Option<u32>
     if word.starts_with('+') {
         return None;
     }
-    word.parse::<u32>().ok()
+    word.parse().ok()
 }
 
 // The words of a line, parted by blanks.
 pub fn words<'a>(heap: Global, line: &'a str) -> Result<Vec<&'a str>, AllocError>
     ensures { IfOk result (λ v. Words line.now (map (λ w. w.now) v.items)) }
 {
-    let mut all = Vec::new(heap);
-    for word in line.split_whitespace() {
-        all.push(word)?;
-    }
-    Ok(all)
+    line.split_whitespace().collect(heap)
 }
 
 // The numbers that the words stand for, or none where one stands for no number.
@@ -47,38 +43,25 @@ pub fn numbers(heap: Global, words: &[&str]) -> Result<Option<Vec<u32>>, AllocEr
 pub fn codes(heap: Global, numbers: &[u32]) -> Result<Vec<Code>, AllocError>
     ensures { IfOk result (λ v. map (λ c. c.0) v.items ≡ numbers.now) }
 {
-    let mut all = Vec::new(heap);
-    for n in numbers {
-        all.push(Code(*n))?;
-    }
-    Ok(all)
+    numbers.iter().map(|n| Code(*n)).collect(heap)
 }
 
 // The elements of a row of codes.
 pub fn elements<F: Field + Drop>(heap: Global, codes: &[u32]) -> Result<Vec<F>, AllocError>
     ensures { IfOk result (λ v. Named F.Ring.value F.Ring.canonical (λ c. F.Ring.value (F.Field.at c)) codes.now v.items) }
 {
-    let mut all = Vec::new(heap);
-    for code in codes {
-        all.push(F::from_code(Code(*code)))?;
-    }
-    Ok(all)
+    codes
+        .iter()
+        .map(|code| F::from_code(Code(*code)))
+        .collect(heap)
 }
 
 // The two numbers with a colon between them that a word stands for.
 fn pair(word: &str) -> Option<(u32, u32)>
     ensures { result ≡ pair_of word.now }
 {
-    let Some((re, eps)) = word.split_once(':') else {
-        return None;
-    };
-    let Some(re) = number(re) else {
-        return None;
-    };
-    let Some(eps) = number(eps) else {
-        return None;
-    };
-    Some((re, eps))
+    let (re, eps) = word.split_once(':')?;
+    Some((number(re)?, number(eps)?))
 }
 
 // The dual numbers that words of two numbers with a colon between stand for, or none where one stands for none.
@@ -106,10 +89,8 @@ pub fn length(word: &str, needed: usize) -> Option<usize>
     ensures { result ≡ length_of word.now needed }
 {
     if word == "-" {
-        return Some(needed);
-    }
-    match number(word) {
-        Some(n) => Some(n as usize),
-        None => None,
+        Some(needed)
+    } else {
+        number(word).map(|n| n as usize)
     }
 }
