@@ -1,8 +1,8 @@
 -- A row read element by element.
 use Rattle.std.proofs.Common.{◌≡◌, ℕ, zero, suc, ◌+◌, ◌<◌, ◌≤◌, List, [], ◌∷◌, ◌++◌, map, length, get_or, take, Some, None, Option, MatchOption, Vec, vec_items, Bor, sym, refl, ap, ◌∙◌, subst, arith}
-use Rattle.std.proofs.lemmas.List.{take_more, map_push, map_more, flat_map_more}
-use Rattle.std.proofs.ByRecursion.{All-push}
-use Rattle.std.specs.List.{Any, AllZip}
+use Rattle.std.proofs.lemmas.List.{take_more}
+use Rattle.std.proofs.lemmas.List.Folds.{flat_map-map}
+use Rattle.std.specs.List.{Any, AllZip, AllByRecursion, flat_map}
 use Rattle.std.specs.Fn.{FnReturnsAt}
 use denote.Param.Members.{Shared}
 use Rattle.text.specs.Numbers.{both, put_first, all_of}
@@ -80,13 +80,19 @@ module _ {N S V : Type 0} (value : S → V) (canonical : S → Type 0) (of : N �
     all_read row (Some v) h reads = each_read reads row (vec_items v) h
 
 module _ {N S V : Type 0} (value : S → V) (of : N → V) (right : N → Type 0) (show : N → List ℕ) where
-  pub shown_none : (text : List ℕ) → text ≡ [] → Shown value of right show [] text
-  shown_none text e = record { names = []; means = refl; chosen = tt; shows = e }
+  -- an element and what holds its name
+  abbrev pub NamedIn : {M : Type 0} → (M → N) → S → M → Type 0
+  NamedIn name x m = (of (name m) ≡ value x) × right (name m)
 
-  pub shown_more : (xs : List S) (i : ℕ) (text more : List ℕ) (x : S) (n : N) → i < length xs → x ≡ get_or xs i x → of n ≡ value x → right n → more ≡ text ++ show n → Shown value of right show (take i xs) text → Shown value of right show (take (i + 1) xs) more
-  shown_more xs i text more x n l at e r m old = record {
-    names = old.names ++ (n ∷ []);
-    means = map_push of old.names n ∙ ap (λ vs. vs ++ (of n ∷ [])) old.means ∙ ap (λ v. map value (take i xs) ++ (v ∷ [])) (e ∙ ap value at) ∙ sym (map_more value xs i x l);
-    chosen = All-push right old.names n old.chosen r;
-    shows = m ∙ ap (λ t. t ++ show n) old.shows ∙ flat_map_more show [] old.names n;
-  }
+  means : {M : Type 0} (name : M → N) (xs : List S) (ms : List M) → AllZip (NamedIn name) xs ms → (map of (map name ms) ≡ map value xs) × AllByRecursion right (map name ms)
+  means name [] [] z = (refl, tt)
+  means name [] (m ∷ ms) z = absurd z
+  means name (x ∷ xs) [] z = absurd z
+  means name (x ∷ xs) (m ∷ ms) z =
+      let rest = means name xs ms z.1 in
+      (cc (z.0.0, rest.0), (z.0.1, rest.1))
+
+  pub shown_zip : {M : Type 0} (name : M → N) (xs : List S) (ms : List M) (text : List ℕ) → AllZip (NamedIn name) xs ms → text ≡ flat_map (λ m. show (name m)) ms → Shown value of right show xs text
+  shown_zip name xs ms text z e =
+      let both = means name xs ms z in
+      record { names = map name ms; means = both.0; chosen = both.1; shows = e ∙ sym (flat_map-map show name ms) }
