@@ -1,7 +1,7 @@
 ghost use Rattle.std.specs.Prelude.{◌≡◌, ℕ, ◌<◌, List, ◌∷◌, ◌++◌, IfOk, Some, string_bytes, decimal};
 ghost use Rattle.std.specs.List.{All, flat_map};
 ghost use Rattle.algebra.specs.Refusals.{answer};
-ghost use Rattle.text.specs.Bytes.{digit_text, bytes_text};
+ghost use Rattle.text.specs.Bytes.{bytes_text};
 ghost use Rattle.text.specs.Elements.{Shown, both_mean, both_named};
 ghost use Rattle.text.specs.Lines.{code_text, pair_text, refusal_text};
 
@@ -64,20 +64,10 @@ pub fn pairs<F: Field>(heap: Global, duals: &[Dual<F>]) -> Result<String, AllocE
 pub fn refused(heap: Global, why: Refusal) -> Result<String, AllocError>
     ensures { IfOk result (λ s. string_bytes s ≡ refusal_text (answer why)) }
 {
-    let (number, value) = why.told();
-    match value {
-        Some(value) => format!(in heap; "refused {number} {value}"),
-        None => format!(in heap; "refused {number}"),
+    match why.told() {
+        (number, Some(value)) => format!(in heap; "refused {number} {value}"),
+        (number, None) => format!(in heap; "refused {number}"),
     }
-}
-
-// The hexadecimal digit of a number below 16.
-fn digit(n: u8) -> u8
-    requires { n < 16 }
-    ensures shows { result ≡ digit_text n }
-    ensures small { result < 128 }
-{
-    if n < 10 { 48 + n } else { 87 + n }
 }
 
 // The bytes in hexadecimal digits, two a byte, and a hyphen where there is none.
@@ -87,10 +77,5 @@ pub fn hexadecimal(heap: Global, bytes: &[u8]) -> Result<String, AllocError>
     if bytes.is_empty() {
         return String::from_str(heap, "-");
     }
-    let mut text = String::new(heap);
-    for b in bytes {
-        text.push(digit(*b / 16) as char)?;
-        text.push(digit(*b % 16) as char)?;
-    }
-    Ok(text)
+    hex::encode(heap, bytes)
 }
