@@ -15,10 +15,8 @@ fn bytes(heap: Global, word: &str) -> Result<Vec<u8>, NoAnswer> {
         return Err(NoAnswer::NoQuestion);
     }
     let mut all = vec![in heap; 0u8; word.len() / 2]?;
-    match hex::decode_to_slice(word, all.as_mut_slice()) {
-        Ok(()) => Ok(all),
-        Err(_) => Err(NoAnswer::NoQuestion),
-    }
+    hex::decode_to_slice(word, all.as_mut_slice()).map_err(|_| NoAnswer::NoQuestion)?;
+    Ok(all)
 }
 
 // The sheet of a tally and a name, from the words for the output, the name and the tally.

@@ -7,35 +7,40 @@ use tally::closed::Closed;
 use tally::frame::Frame;
 use tally::open::Open;
 
-// A call on a tally, with its code and its quantity.
+// Which way a call moves its quantity.
 #[derive(Clone, Copy)]
-enum Call {
-    Enter(Code, u32),
-    Withdraw(Code, u32),
+enum Move {
+    In,
+    Out,
+}
+
+// A call on a tally.
+#[derive(Clone, Copy)]
+struct Call {
+    moves: Move,
+    code: Code,
+    quantity: u32,
 }
 
 impl Call {
     // The call of a word such as +447*14 or -397*2.
     fn of(word: &str) -> Option<Call> {
-        if let Some(moved) = word.strip_prefix('+') {
-            let (code, quantity) = moved.split_once('*')?;
-            Some(Call::Enter(
-                Code(text::read::number(code)?),
-                text::read::number(quantity)?,
-            ))
-        } else {
-            let (code, quantity) = word.strip_prefix('-')?.split_once('*')?;
-            Some(Call::Withdraw(
-                Code(text::read::number(code)?),
-                text::read::number(quantity)?,
-            ))
-        }
+        let (moves, rest) = match word.strip_prefix('+') {
+            Some(rest) => (Move::In, rest),
+            None => (Move::Out, word.strip_prefix('-')?),
+        };
+        let (code, quantity) = rest.split_once('*')?;
+        Some(Call {
+            moves,
+            code: Code(text::read::number(code)?),
+            quantity: text::read::number(quantity)?,
+        })
     }
 
     fn make<F: Field>(self, tally: &mut Open<F>) -> Result<(), Refusal> {
-        match self {
-            Call::Enter(code, quantity) => tally.enter(code, quantity),
-            Call::Withdraw(code, quantity) => tally.withdraw(code, quantity),
+        match self.moves {
+            Move::In => tally.enter(self.code, self.quantity),
+            Move::Out => tally.withdraw(self.code, self.quantity),
         }
     }
 }
