@@ -14,10 +14,12 @@ use std::alloc::{AllocError, Global};
 pub fn number(word: &str) -> Option<u32>
     ensures { result ≡ number_of word.now }
 {
+    // parse also takes a plus sign
     if word.starts_with('+') {
-        return None;
+        None
+    } else {
+        word.parse().ok()
     }
-    word.parse().ok()
 }
 
 // The words of a line, parted by blanks.
