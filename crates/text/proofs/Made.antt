@@ -1,5 +1,5 @@
 -- A list made of another, element by element, by a chain of calls.
-use Rattle.std.proofs.Common.{◌≡◌, ℕ, List, [], ◌∷◌, length, Some, None, Ok, Err, Result, Option, IfOk, vec_items, vec_len, Vec, Bor, sym, subst}
+use Rattle.std.proofs.Common.{◌≡◌, List, [], ◌∷◌, length, None, Ok, Err, Result, IfOk, vec_items, vec_len, Vec, Bor, sym, subst}
 use Rattle.std.proofs.iter.Yields.{fronts}
 use Rattle.std.proofs.lemmas.Iterator.{maps, IsCollectResult}
 use Rattle.std.proofs.lemmas.List.{nil_from_length}

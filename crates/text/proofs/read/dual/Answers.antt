@@ -1,4 +1,3 @@
-use Rattle.std.proofs.Common.{rules}
 use Rattle.text.proofs.Cuts.{pair_parts, pair_none}
 use Rattle.text.proofs.read.dual.Goals as goal
 

@@ -1,4 +1,4 @@
-use Rattle.std.proofs.Common.{◌+◌, List, Some, take, vec_items, sym, refl, subst, rules, of_calls}
+use Rattle.std.proofs.Common.{◌+◌, List, Some, take, vec_items, sym, refl, subst}
 use Rattle.std.specs.Fn.{FnReturnsAt}
 use Rattle.std.specs.List.{AllZip}
 use Rattle.text.proofs.Rows.{zip_more}

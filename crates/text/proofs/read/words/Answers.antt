@@ -1,5 +1,3 @@
-use Rattle.std.proofs.Common.{◌≡◌, rules}
-use Rattle.std.proofs.lemmas.Result.{IfOk-weaker}
 use Rattle.text.proofs.Split.{words_of}
 use Rattle.text.proofs.read.words.Goals as goal
 

@@ -1,4 +1,4 @@
-use Rattle.std.proofs.Common.{◌≡◌, ℕ, ◌<◌, vec_items, string_bytes, decimal, refl, ◌∙◌, ap, rules}
+use Rattle.std.proofs.Common.{ℕ, ◌<◌, vec_items, string_bytes, decimal, refl, ◌∙◌, ap, rules}
 use Rattle.std.specs.List.{flat_map}
 use Rattle.std.proofs.lemmas.Result.{IfOk-weaker}
 use Rattle.text.specs.Lines.{code_text}
