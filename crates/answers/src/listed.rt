@@ -1,43 +1,33 @@
-use crate::lent::{records, zeros};
+use crate::no_answer::NoAnswer;
 use algebra::code::Code;
 use algebra::dual::Dual;
 use algebra::field::Field;
+use algebra::ring::Ring;
 use roots::list::{RootList, roots};
 use roots::record::RootRecord;
 use std::alloc::{AllocError, Global};
+use std::fmt::Write;
 
-// The words of a question: the lengths of the list and of the work space, then the coefficients.
-pub fn listed<F: Field + Drop>(heap: Global, words: &[&str]) -> Result<Option<String>, AllocError> {
-    if words.len() < 2 {
-        return Ok(None);
-    }
-    let Some(numbers) = text::read::numbers(heap, &words[2..])? else {
-        return Ok(None);
+// The roots, in a list and a work space of the lengths asked for. The words are the two lengths, then the coefficients.
+pub fn listed<F: Field + Clone + Drop>(heap: Global, words: &[&str]) -> Result<String, NoAnswer> {
+    let [list, work, codes @ ..] = words else {
+        return Err(NoAnswer::NoQuestion);
     };
+    let numbers = text::read::numbers(heap, codes)?.ok_or(NoAnswer::NoQuestion)?;
     let f = text::read::codes(heap, numbers.as_slice())?;
-    let Some(room) = text::read::length(words[0], f.len().saturating_sub(1)) else {
-        return Ok(None);
-    };
+    let room = text::read::length(list, f.len().saturating_sub(1)).ok_or(NoAnswer::NoQuestion)?;
     let levels = F::height() as usize + 1;
-    let Some(long) = text::read::length(words[1], levels.saturating_mul(f.len())) else {
-        return Ok(None);
+    let long = text::read::length(work, levels.saturating_mul(f.len())).ok_or(
+        NoAnswer::NoQuestion,
+    )?;
+    let empty = RootRecord {
+        code: Code(0),
+        multiplicity: 0,
     };
-    answered::<F>(heap, f.as_slice(), room, long)
-}
-
-// The roots, in a list and a work space of these lengths.
-fn answered<F: Field + Drop>(
-    heap: Global,
-    f: &[Code],
-    room: usize,
-    long: usize,
-) -> Result<Option<String>, AllocError> {
-    let mut list = records(heap, room)?;
-    let mut work = zeros::<Dual<F>>(heap, long)?;
-    match roots(f, list.as_mut_slice(), work.as_mut_slice()) {
-        Ok(all) => Ok(Some(told(heap, all, list.as_slice())?)),
-        Err(why) => Ok(Some(text::write::refused(heap, why)?)),
-    }
+    let mut list = vec![in heap; empty; room]?;
+    let mut work = vec![in heap; Dual::<F>::zero(); long]?;
+    let all = roots(f.as_slice(), list.as_mut_slice(), work.as_mut_slice())?;
+    Ok(told(heap, all, list.as_slice())?)
 }
 
 // The number of roots, whether they split f, the trials, and each root with its multiplicity.
@@ -45,8 +35,7 @@ fn told(heap: Global, all: RootList, list: &[RootRecord]) -> Result<String, Allo
     let splits = if all.splits { "yes" } else { "no" };
     let mut text = format!(in heap; "ok {} {splits} {}", all.count, all.trials)?;
     for record in list.iter().take(all.count) {
-        let root = format!(in heap; " {}:{}", record.code.0, record.multiplicity)?;
-        text.push_str(root.as_str())?;
+        write!(text, " {}:{}", record.code.0, record.multiplicity)?;
     }
     Ok(text)
 }

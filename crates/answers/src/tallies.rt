@@ -1,5 +1,4 @@
-ghost use Rattle.std.specs.Prelude.{◌<◌, length, IfSome};
-
+use crate::no_answer::NoAnswer;
 use algebra::code::Code;
 use algebra::field::Field;
 use algebra::refusal::Refusal;
@@ -8,188 +7,137 @@ use tally::closed::Closed;
 use tally::frame::Frame;
 use tally::open::Open;
 
-// A call that a word stands for: whether it enters, its code and its quantity.
+// Which way a call moves its quantity.
+#[derive(Clone, Copy)]
+enum Move {
+    In,
+    Out,
+}
+
+// A call on a tally.
 #[derive(Clone, Copy)]
 struct Call {
-    enters: bool,
-    code: u32,
+    moves: Move,
+    code: Code,
     quantity: u32,
 }
 
-// The call of a word such as +447*14 or -397*2.
-fn parsed(word: &str) -> Option<Call> {
-    let enters = word.starts_with('+');
-    let sign = if enters { '+' } else { '-' };
-    let Some((before, rest)) = word.split_once(sign) else {
-        return None;
-    };
-    let Some((code, quantity)) = rest.split_once('*') else {
-        return None;
-    };
-    if !before.is_empty() {
-        return None;
-    }
-    match (text::read::number(code), text::read::number(quantity)) {
-        (Some(code), Some(quantity)) => Some(Call {
-            enters,
-            code,
-            quantity,
-        }),
-        _ => None,
-    }
-}
-
-fn calls(heap: Global, words: &[&str]) -> Result<Option<Vec<Call>>, AllocError> {
-    let mut all = Vec::new(heap);
-    for word in words {
-        let Some(one) = parsed(word) else {
-            return Ok(None);
+impl Call {
+    // The call of a word such as +447*14 or -397*2.
+    fn of(word: &str) -> Option<Call> {
+        let (moves, rest) = match word.strip_prefix('+') {
+            Some(rest) => (Move::In, rest),
+            None => (Move::Out, word.strip_prefix('-')?),
         };
-        all.push(one)?;
+        let (code, quantity) = rest.split_once('*')?;
+        Some(Call {
+            moves,
+            code: Code(text::read::number(code)?),
+            quantity: text::read::number(quantity)?,
+        })
     }
-    Ok(Some(all))
+
+    fn make<F: Field>(self, tally: &mut Open<F>) -> Result<(), Refusal> {
+        match self.moves {
+            Move::In => tally.enter(self.code, self.quantity),
+            Move::Out => tally.withdraw(self.code, self.quantity),
+        }
+    }
 }
 
 // An answer as it stands in a row of answers: `ok`, or the refusal's number and value with a colon between.
 fn short(heap: Global, answer: Result<(), Refusal>) -> Result<String, AllocError> {
-    let Err(why) = answer else {
-        return String::from_str(heap, "ok");
-    };
-    match why.told() {
-        (number, Some(value)) => format!(in heap; "{number}:{value}"),
-        (number, None) => format!(in heap; "{number}"),
+    match answer.map_err(|why| why.told()) {
+        Ok(()) => String::from_str(heap, "ok"),
+        Err((number, Some(value))) => format!(in heap; "{number}:{value}"),
+        Err((number, None)) => format!(in heap; "{number}"),
     }
 }
 
 // Makes the calls on the tally, and gives their answers with commas between, or a hyphen where there is no call.
 fn run<F: Field>(heap: Global, tally: &mut Open<F>, calls: &[Call]) -> Result<String, AllocError> {
+    if calls.is_empty() {
+        return String::from_str(heap, "-");
+    }
     let mut row = String::new(heap);
     for call in calls {
-        let answer = if call.enters {
-            tally.enter(Code(call.code), call.quantity)
-        } else {
-            tally.withdraw(Code(call.code), call.quantity)
-        };
-        if row.len() > 0 {
+        if !row.is_empty() {
             row.push_str(",")?;
         }
-        row.push_str(short(heap, answer)?.as_str())?;
-    }
-    if row.len() == 0 {
-        row.push_str("-")?;
+        row.push_str(short(heap, call.make(tally))?.as_str())?;
     }
     Ok(row)
 }
 
 // The codes of the sums, a blank before each.
 pub fn sums<F: Field>(heap: Global, tally: &Closed<F>) -> Result<String, AllocError> {
-    let mut row = String::new(heap);
-    for k in 0..tally.frame().count() {
-        let code = tally.sum_code(k).0;
-        row.push_str(format!(in heap; " {code}")?.as_str())?;
-    }
-    Ok(row)
+    let codes: Vec<u32> = (0..tally.frame().count())
+        .map(|k| tally.sum_code(k).0)
+        .collect(heap)?;
+    text::write::row(heap, codes.as_slice())
 }
 
 // The answers to the calls on a tally of the frame in the first two words, then its turnover and its sums.
-pub fn log<F: Field>(heap: Global, words: &[&str]) -> Result<Option<String>, AllocError> {
-    if words.len() < 2 {
-        return Ok(None);
-    }
-    let (Some(width), Some(spare)) = (text::read::number(words[0]), text::read::number(words[1]))
-    else {
-        return Ok(None);
+pub fn log<F: Field>(heap: Global, words: &[&str]) -> Result<String, NoAnswer> {
+    let [width, spare, calls @ ..] = words else {
+        return Err(NoAnswer::NoQuestion);
     };
-    let Some(calls) = calls(heap, &words[2..])? else {
-        return Ok(None);
-    };
-    let frame = match Frame::new(width, spare) {
-        Ok(frame) => frame,
-        Err(why) => return Ok(Some(text::write::refused(heap, why)?)),
-    };
-    let mut tally = Open::<F>::open(frame);
+    let width = text::read::number(width).ok_or(NoAnswer::NoQuestion)?;
+    let spare = text::read::number(spare).ok_or(NoAnswer::NoQuestion)?;
+    let calls: Option<Vec<Call>> = calls.iter().map(|word| Call::of(word)).collect(heap)?;
+    let calls = calls.ok_or(NoAnswer::NoQuestion)?;
+    let mut tally = Open::<F>::open(Frame::new(width, spare)?);
     let answers = run(heap, &mut tally, calls.as_slice())?;
     let tally = tally.close();
     let turnover = tally.turnover();
     let sums = sums(heap, &tally)?;
-    Ok(Some(format!(in heap; "ok {answers} {turnover}{sums}")?))
+    Ok(format!(in heap; "ok {answers} {turnover}{sums}")?)
 }
 
-// A closed tally as a sheet could hold it: refused by its frame, and none where the sums are not as many as the frame has or
-// one is no code, or the turnover is above the limit.
+// A closed tally as a sheet could hold it: refused by its frame, and no question where the sums are not as many as the frame
+// has or one is no code, or the turnover is above the limit.
 pub fn held<F: Field>(
     heap: Global,
     width: u32,
     spare: u32,
     turnover: u32,
     sums: &[u32],
-) -> Result<Result<Option<Closed<F>>, Refusal>, AllocError> {
-    let frame = match Frame::new(width, spare) {
-        Ok(frame) => frame,
-        Err(why) => return Ok(Err(why)),
-    };
-    if sums.len() != frame.count() || turnover > (F::size() - 1) / 4 {
-        return Ok(Ok(None));
+) -> Result<Closed<F>, NoAnswer> {
+    let frame = Frame::new(width, spare)?;
+    if sums.len() != frame.count()
+        || turnover > (F::size() - 1) / 4
+        || sums.iter().any(|code| *code >= F::size())
+    {
+        return Err(NoAnswer::NoQuestion);
     }
-    let mut codes = Vec::new(heap);
-    for code in sums {
-        if *code >= F::size() {
-            return Ok(Ok(None));
-        }
-        codes.push(Code(*code))?;
-    }
+    let codes = text::read::codes(heap, sums)?;
     let mut tally = Closed::<F>::blank(frame);
     tally.restore(frame, turnover, codes.as_slice());
-    Ok(Ok(Some(tally)))
+    Ok(tally)
 }
 
 // A tally of turnover 0 by its frame and its sums.
-fn restored<F: Field>(
-    heap: Global,
-    numbers: &[u32],
-) -> Result<Result<Option<Closed<F>>, Refusal>, AllocError> {
-    if numbers.len() < 2 {
-        return Ok(Ok(None));
-    }
-    held::<F>(heap, numbers[0], numbers[1], 0, &numbers[2..])
+fn restored<F: Field>(heap: Global, numbers: &[u32]) -> Result<Closed<F>, NoAnswer> {
+    let [width, spare, sums @ ..] = numbers else {
+        return Err(NoAnswer::NoQuestion);
+    };
+    held::<F>(heap, *width, *spare, 0, sums)
 }
 
-// Where the word / stands.
-fn slash(words: &[&str]) -> Option<usize>
-    ensures { IfSome result (λ i. i < length words.now) }
-{
-    for (i, word) in words.iter().enumerate() {
-        if *word == "/" {
-            return Some(i);
-        }
-    }
-    None
-}
-
-// Whether two tallies, given by their frames and sums, are equal.
-pub fn compare<F: Field>(heap: Global, words: &[&str]) -> Result<Option<String>, AllocError> {
-    let Some(at) = slash(words) else {
-        return Ok(None);
+// Whether two tallies, given by their frames and sums with a / between, are equal.
+pub fn compare<F: Field>(heap: Global, words: &[&str]) -> Result<String, NoAnswer> {
+    let mut parts = words.splitn(2, |word| *word == "/");
+    let (Some(left), Some(right)) = (parts.next(), parts.next()) else {
+        return Err(NoAnswer::NoQuestion);
     };
-    let (Some(left), Some(right)) = (
-        text::read::numbers(heap, &words[0..at])?,
-        text::read::numbers(heap, &words[at + 1..])?,
-    ) else {
-        return Ok(None);
+    let left = text::read::numbers(heap, left)?.ok_or(NoAnswer::NoQuestion)?;
+    let right = text::read::numbers(heap, right)?.ok_or(NoAnswer::NoQuestion)?;
+    let left = restored::<F>(heap, left.as_slice())?;
+    let right = restored::<F>(heap, right.as_slice())?;
+    let equal = if left.compare(&right)? {
+        "ok equal"
+    } else {
+        "ok unequal"
     };
-    let left = match restored::<F>(heap, left.as_slice())? {
-        Ok(Some(tally)) => tally,
-        Ok(None) => return Ok(None),
-        Err(why) => return Ok(Some(text::write::refused(heap, why)?)),
-    };
-    let right = match restored::<F>(heap, right.as_slice())? {
-        Ok(Some(tally)) => tally,
-        Ok(None) => return Ok(None),
-        Err(why) => return Ok(Some(text::write::refused(heap, why)?)),
-    };
-    match left.compare(&right) {
-        Ok(true) => Ok(Some(String::from_str(heap, "ok equal")?)),
-        Ok(false) => Ok(Some(String::from_str(heap, "ok unequal")?)),
-        Err(why) => Ok(Some(text::write::refused(heap, why)?)),
-    }
+    Ok(String::from_str(heap, equal)?)
 }

@@ -1,44 +1,40 @@
-use crate::lent::zeros;
-use algebra::dual::Dual;
+use crate::no_answer::NoAnswer;
 use algebra::field::Field;
 use algebra::graeffe::graeffe;
+use algebra::ring::Ring;
 use std::alloc::{AllocError, Global};
 
-// The Graeffe transform of the elements of the codes, in an output of the length asked for.
-pub fn double<F: Field + Drop>(
+// The Graeffe transform of f, in an output of the length asked for, as `write` writes it.
+fn transformed<R: Ring + Clone + Drop, W: Fn(Global, &[R]) -> Result<String, AllocError>>(
     heap: Global,
+    f: &[R],
     out: &str,
-    codes: &[&str],
-) -> Result<Option<String>, AllocError> {
-    let Some(codes) = text::read::numbers(heap, codes)? else {
-        return Ok(None);
-    };
-    let Some(long) = text::read::length(out, codes.len()) else {
-        return Ok(None);
-    };
-    let f = text::read::elements::<F>(heap, codes.as_slice())?;
-    let mut out = zeros::<F>(heap, long)?;
-    match graeffe(f.as_slice(), out.as_mut_slice()) {
-        Ok(()) => Ok(Some(format!(in heap; "ok{}", text::write::codes(heap, &out[0..f.len()])?)?)),
-        Err(why) => Ok(Some(text::write::refused(heap, why)?)),
-    }
+    write: W,
+) -> Result<String, NoAnswer>
+    requires { W.IsAlwaysCallable write }
+{
+    let long = text::read::length(out, f.len()).ok_or(NoAnswer::NoQuestion)?;
+    let mut out = vec![in heap; R::zero(); long]?;
+    graeffe(f, out.as_mut_slice())?;
+    let row = write(heap, &out[0..f.len()])?;
+    Ok(format!(in heap; "ok{row}")?)
 }
 
-// The Graeffe transform of dual numbers.
-pub fn pairs<F: Field + Drop>(
-    heap: Global,
-    out: &str,
-    words: &[&str],
-) -> Result<Option<String>, AllocError> {
-    let Some(f) = text::read::pairs::<F>(heap, words)? else {
-        return Ok(None);
+// The transform of the elements of the codes.
+pub fn double<F: Field + Clone + Drop>(heap: Global, words: &[&str]) -> Result<String, NoAnswer> {
+    let [out, codes @ ..] = words else {
+        return Err(NoAnswer::NoQuestion);
     };
-    let Some(long) = text::read::length(out, f.len()) else {
-        return Ok(None);
+    let codes = text::read::numbers(heap, codes)?.ok_or(NoAnswer::NoQuestion)?;
+    let f = text::read::elements::<F>(heap, codes.as_slice())?;
+    transformed(heap, f.as_slice(), out, text::write::codes::<F>)
+}
+
+// The transform of the dual numbers.
+pub fn pairs<F: Field + Clone + Drop>(heap: Global, words: &[&str]) -> Result<String, NoAnswer> {
+    let [out, duals @ ..] = words else {
+        return Err(NoAnswer::NoQuestion);
     };
-    let mut out = zeros::<Dual<F>>(heap, long)?;
-    match graeffe(f.as_slice(), out.as_mut_slice()) {
-        Ok(()) => Ok(Some(format!(in heap; "ok{}", text::write::pairs(heap, &out[0..f.len()])?)?)),
-        Err(why) => Ok(Some(text::write::refused(heap, why)?)),
-    }
+    let f = text::read::pairs::<F>(heap, duals)?.ok_or(NoAnswer::NoQuestion)?;
+    transformed(heap, f.as_slice(), out, text::write::pairs::<F>)
 }

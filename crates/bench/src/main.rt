@@ -8,8 +8,8 @@ use algebra::graeffe::graeffe;
 use algebra::refusal::Refusal;
 use fields::residue::Residue;
 use std::alloc::{AllocError, Global};
-use std::io;
 use std::time::Instant;
+use std::{io, iter};
 
 const SIZE: usize = 257;
 
@@ -21,13 +21,13 @@ const PRODUCTS: u128 = 16641;
 
 // The elements whose codes follow a fixed linear congruence.
 fn filled<F: Field + Drop>(heap: Global, n: usize) -> Result<Vec<F>, AllocError> {
-    let mut row = Vec::new(heap);
-    let mut code = 1u32;
-    for _ in 0..n {
-        code = code.wrapping_mul(1103515245).wrapping_add(12345);
-        row.push(F::from_code(Code(code % F::size())))?;
-    }
-    Ok(row)
+    iter::successors(Some(1u32), |code| {
+        Some(code.wrapping_mul(1103515245).wrapping_add(12345))
+    })
+    .skip(1)
+    .take(n)
+    .map(|code| F::from_code(Code(code % F::size())))
+    .collect(heap)
 }
 
 // Transforms f into out and out into f, as often as asked.
@@ -40,11 +40,9 @@ fn transforms<F: Field>(f: &mut [F], out: &mut [F], rounds: u32) -> Result<(), R
 }
 
 fn sum_of_codes<F: Field>(row: &[F]) -> u64 {
-    let mut sum = 0u64;
-    for x in row {
-        sum = sum.saturating_add(u64::from(x.to_code().0));
-    }
-    sum
+    row.iter()
+        .map(|x| u64::from(x.to_code().0))
+        .fold(0, u64::saturating_add)
 }
 
 fn main(rt: HostRuntime) -> io::Result<()> {

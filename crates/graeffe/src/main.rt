@@ -4,38 +4,27 @@
 
 use algebra::field::Field;
 use algebra::graeffe::graeffe;
-use algebra::refusal::Refusal;
+use algebra::ring::Ring;
 use fields::residue::Residue;
 use fields::seventeen::Seventeen;
 use std::alloc::{AllocError, Global};
 use std::io;
 use std::io::{BufRead, BufReader};
 
-// The first of the numbers that is no code of the field.
-fn no_code<F: Field>(codes: &[u32]) -> Option<u32> {
-    for code in codes {
-        if *code >= F::size() {
-            return Some(*code);
-        }
-    }
-    None
-}
-
 // The transform over one field, or why there is none.
-fn over<F: Field + Drop>(heap: Global, codes: &[u32]) -> Result<String, AllocError> {
-    if let Some(code) = no_code::<F>(codes) {
+fn over<F: Field + Clone + Drop>(heap: Global, codes: &[u32]) -> Result<String, AllocError> {
+    if let Some(code) = codes.iter().find(|code| **code >= F::size()) {
         return format!(in heap; " {code} is no code of this field");
     }
     let f = text::read::elements::<F>(heap, codes)?;
-    let mut out = text::read::elements::<F>(heap, codes)?;
+    let mut out = vec![in heap; F::zero(); codes.len()]?;
     match graeffe(f.as_slice(), out.as_mut_slice()) {
         Ok(()) => text::write::codes(heap, out.as_slice()),
-        Err(Refusal::Length(n)) => format!(in heap; " {n} coefficients, where 1 to 257 are taken"),
-        Err(why) => format!(in heap; " {}", text::write::refused(heap, why)?),
+        Err(why) => format!(in heap; " {why}"),
     }
 }
 
-// What is printed of one line.
+// What is printed of one line. What it shares with rootlist stays twice: a helper would take a closure for each field.
 fn told(heap: Global, line: &str) -> Result<String, AllocError> {
     let words = text::read::words(heap, line)?;
     let Some(codes) = text::read::numbers(heap, words.as_slice())? else {

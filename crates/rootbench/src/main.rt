@@ -34,11 +34,9 @@ fn lists<F: Field>(
 }
 
 fn sum_of_codes(list: &[RootRecord]) -> u64 {
-    let mut sum = 0u64;
-    for record in list {
-        sum = sum.saturating_add(u64::from(record.code.0));
-    }
-    sum
+    list.iter()
+        .map(|record| u64::from(record.code.0))
+        .fold(0, u64::saturating_add)
 }
 
 fn main(rt: HostRuntime) -> io::Result<()> {
@@ -48,12 +46,8 @@ fn main(rt: HostRuntime) -> io::Result<()> {
         code: Code(0),
         multiplicity: 0,
     };
-    let zero = Dual {
-        re: Residue::zero(),
-        eps: Residue::zero(),
-    };
     let mut list = vec![in heap; empty; DEGREE]?;
-    let mut work = vec![in heap; zero; 27 * (DEGREE + 1)]?;
+    let mut work = vec![in heap; Dual::<Residue>::zero(); 27 * (DEGREE + 1)]?;
     let start = Instant::now(&rt)?;
     let done = lists(
         f.as_slice(),

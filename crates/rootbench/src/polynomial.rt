@@ -1,14 +1,15 @@
 use algebra::code::Code;
 use algebra::field::Field;
 use std::alloc::{AllocError, Global};
+use std::iter;
 
 // Multiplies a polynomial by x - r. Its top coefficient, which must be zero, gives way to the one below.
 fn times<F: Field>(f: &mut [F], r: F) {
     let back = r.neg();
     let mut below = F::zero();
-    for i in 0..f.len() {
-        let here = f[i];
-        f[i] = below.add(back.mul(here));
+    for place in f.iter_mut() {
+        let here = *place;
+        *place = below.add(back.mul(here));
         below = here;
     }
 }
@@ -19,15 +20,13 @@ pub fn codes<F: Field + Clone + Drop>(
     degree: usize,
 ) -> Result<Vec<Code>, AllocError> {
     let mut f = vec![in heap; F::one()]?;
-    let mut code = 1u32;
-    for _ in 0..degree {
-        code = code.wrapping_mul(1103515245).wrapping_add(12345);
+    // bench has this congruence too: they share only the libraries, where it has no place.
+    let drawn = iter::successors(Some(1u32), |code| {
+        Some(code.wrapping_mul(1103515245).wrapping_add(12345))
+    });
+    for code in drawn.skip(1).take(degree) {
         f.push(F::zero())?;
         times(f.as_mut_slice(), F::from_code(Code(code % F::size())));
     }
-    let mut codes = Vec::new(heap);
-    for x in f.as_slice() {
-        codes.push(x.to_code())?;
-    }
-    Ok(codes)
+    f.iter().map(|x| x.to_code()).collect(heap)
 }

@@ -22,20 +22,16 @@ fn over<F: Field + Clone + Drop>(heap: Global, f: &[Code]) -> Result<String, All
         code: Code(0),
         multiplicity: 0,
     };
-    let zero = Dual {
-        re: F::zero(),
-        eps: F::zero(),
-    };
     let levels = F::height() as usize + 1;
     let mut list = vec![in heap; empty; f.len()]?;
-    let mut work = vec![in heap; zero; levels.saturating_mul(f.len())]?;
+    let mut work = vec![in heap; Dual::<F>::zero(); levels.saturating_mul(f.len())]?;
     match roots(f, list.as_mut_slice(), work.as_mut_slice()) {
         Ok(all) => told::roots(heap, all, list.as_slice()),
-        Err(why) => told::refusal(heap, why),
+        Err(why) => format!(in heap; "{why}"),
     }
 }
 
-// What is printed of one line.
+// What is printed of one line. What it shares with graeffe stays twice: a helper would take a closure for each field.
 fn shown(heap: Global, line: &str) -> Result<String, AllocError> {
     let words = text::read::words(heap, line)?;
     let Some(numbers) = text::read::numbers(heap, words.as_slice())? else {

@@ -1,20 +1,7 @@
-use algebra::refusal::Refusal;
 use roots::list::RootList;
 use roots::record::RootRecord;
 use std::alloc::{AllocError, Global};
-
-// A refusal in words.
-pub fn refusal(heap: Global, why: Refusal) -> Result<String, AllocError> {
-    match why {
-        Refusal::Short(needed) => format!(in heap; "too little room, where {needed} are needed"),
-        Refusal::Length(n) => format!(in heap; "{n} coefficients, where 1 to 257 are taken"),
-        Refusal::Coefficient(place) => {
-            format!(in heap; "the coefficient at {place} is no code of this field")
-        }
-        Refusal::Top => String::from_str(heap, "the top coefficient is zero"),
-        other => text::write::refused(heap, other),
-    }
-}
+use std::fmt::Write;
 
 // How often a root counts.
 fn times(heap: Global, multiplicity: u32) -> Result<String, AllocError> {
@@ -34,7 +21,7 @@ fn records(heap: Global, list: &[RootRecord], count: usize) -> Result<String, Al
     for (i, record) in list.iter().take(count).enumerate() {
         let comma = if i == 0 { "" } else { "," };
         let often = times(heap, record.multiplicity)?;
-        text.push_str(format!(in heap; "{comma} {} {often}", record.code.0)?.as_str())?;
+        write!(text, "{comma} {} {often}", record.code.0)?;
     }
     Ok(text)
 }

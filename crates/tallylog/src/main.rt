@@ -2,8 +2,9 @@
 // denied with the reason, and at the end the turnover and the codes of the sums.
 #![tactic(auto)]
 
-mod told;
+mod denial;
 
+use crate::denial::Denial;
 use algebra::code::Code;
 use fields::residue::Residue;
 use std::alloc::{AllocError, Global};
@@ -13,37 +14,27 @@ use tally::closed::Closed;
 use tally::frame::Frame;
 use tally::open::Open;
 
-// Makes the call of a line, and says what is denied: nothing where the call is accepted.
-fn call(heap: Global, tally: &mut Open<Residue>, line: &str) -> Result<Option<String>, AllocError> {
-    let words = text::read::words(heap, line)?;
-    let words = words.as_slice();
-    if words.len() != 3 {
-        return Ok(Some(String::from_str(heap, told::FORM)?));
-    }
-    let (Some(code), Some(quantity)) = (text::read::number(words[1]), text::read::number(words[2]))
-    else {
-        return Ok(Some(String::from_str(heap, told::FORM)?));
+// Makes the call of these words.
+fn call(tally: &mut Open<Residue>, words: &[&str]) -> Result<(), Denial> {
+    let [way, code, quantity] = words else {
+        return Err(Denial::Form);
     };
-    let answer = if words[0] == "in" {
-        tally.enter(Code(code), quantity)
-    } else if words[0] == "out" {
-        tally.withdraw(Code(code), quantity)
-    } else {
-        return Ok(Some(String::from_str(heap, told::FORM)?));
-    };
-    match answer {
-        Ok(()) => Ok(None),
-        Err(why) => Ok(Some(told::refusal(heap, why)?)),
+    let code = Code(text::read::number(code).ok_or(Denial::Form)?);
+    let quantity = text::read::number(quantity).ok_or(Denial::Form)?;
+    match *way {
+        "in" => Ok(tally.enter(code, quantity)?),
+        "out" => Ok(tally.withdraw(code, quantity)?),
+        _ => Err(Denial::Form),
     }
 }
 
 // The turnover and the sums.
 fn contents(heap: Global, tally: &Closed<Residue>) -> Result<String, AllocError> {
-    let mut text = format!(in heap; "turnover {}\nsums", tally.turnover())?;
-    for k in 0..tally.frame().count() {
-        text.push_str(format!(in heap; " {}", tally.sum_code(k).0)?.as_str())?;
-    }
-    Ok(text)
+    let codes: Vec<u32> = (0..tally.frame().count())
+        .map(|k| tally.sum_code(k).0)
+        .collect(heap)?;
+    let sums = text::write::row(heap, codes.as_slice())?;
+    format!(in heap; "turnover {}\nsums{sums}", tally.turnover())
 }
 
 fn main(rt: HostRuntime) -> io::Result<()> {
@@ -54,11 +45,11 @@ fn main(rt: HostRuntime) -> io::Result<()> {
     let mut tally = Open::<Residue>::open(frame);
     for line in BufReader::new(heap, rt.stdin())?.lines(heap) {
         let line = line?;
-        if let Some(why) = call(heap, &mut tally, line.as_str())? {
-            rt.println(format!(in heap; "{}: denied, {why}", line.as_str())?)?;
+        let words = text::read::words(heap, line.as_str())?;
+        if let Err(why) = call(&mut tally, words.as_slice()) {
+            println!(rt; "{}: denied, {why}", line.as_str())?;
         }
     }
-    let tally = tally.close();
-    rt.println(contents(heap, &tally)?)?;
+    rt.println(contents(heap, &tally.close())?)?;
     Ok(())
 }

@@ -7,21 +7,16 @@ use Rattle.text.specs.Numbers.{before_colon, cut, both, both_of, number_of, pair
 abbrev Plain : List ℕ → Type 0
 Plain bs = (i : ℕ) → i < length bs → get_or bs i 0 ≡ 58 → ⊥
 
-cut-past : (c : ℕ) (cs : List ℕ) → Plain (c ∷ cs) → cut (c ∷ cs) ≡ before_colon c (cut cs)
-cut-past c cs h = cond-false (eqb c 58) (Some ([], cs)) (before_colon c (cut cs)) (ne_eqb c 58 (h 0 (omega arith)))
-
-rest_plain : (c : ℕ) (cs : List ℕ) → Plain (c ∷ cs) → Plain cs
-rest_plain c cs h i l = h (suc i) (omega arith)
+cut-past : (c : ℕ) (cs : List ℕ) → (c ≡ 58 → ⊥) → cut (c ∷ cs) ≡ before_colon c (cut cs)
+cut-past c cs h = cond-false (eqb c 58) (Some ([], cs)) (before_colon c (cut cs)) (ne_eqb c 58 h)
 
 cut_found : (xs ys : List ℕ) → Plain xs → cut (xs ++ (58 ∷ ys)) ≡ Some (xs, ys)
 cut_found [] ys h = refl
-cut_found (c ∷ cs) ys h =
-    cond-false (eqb c 58) (Some ([], cs ++ (58 ∷ ys))) (before_colon c (cut (cs ++ (58 ∷ ys)))) (ne_eqb c 58 (h 0 (omega arith)))
-    ∙ ap (before_colon c) (cut_found cs ys (rest_plain c cs h))
+cut_found (c ∷ cs) ys h = cut-past c (cs ++ (58 ∷ ys)) (h 0 (omega arith)) ∙ ap (before_colon c) (cut_found cs ys (λ i l. h (suc i) (omega arith)))
 
 cut_none : (bs : List ℕ) → Plain bs → cut bs ≡ None
 cut_none [] h = refl
-cut_none (c ∷ cs) h = cut-past c cs h ∙ ap (before_colon c) (cut_none cs (rest_plain c cs h))
+cut_none (c ∷ cs) h = cut-past c cs (h 0 (omega arith)) ∙ ap (before_colon c) (cut_none cs (λ i l. h (suc i) (omega arith)))
 
 pair-at : (bs xs ys : List ℕ) → (bs ≡ xs ++ (58 ∷ ys)) × Plain xs → pair_of bs ≡ both_of (Some (xs, ys))
 unfolding pair_of

@@ -2,5 +2,5 @@ pub mod Numerals
 pub mod Cuts
 pub mod Rows
 pub mod Split
-pub mod Refused
 pub mod Hex
+pub mod Made

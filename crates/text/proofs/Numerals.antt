@@ -1,11 +1,12 @@
 -- What `parse` answers is what a word stands for.
-use Rattle.std.proofs.Common.{◌≡◌, ℕ, ◌^◌, ◌<◌, true, false, ◌&&◌, ltb, List, [], ◌∷◌, length, get_or, Some, None, Ok, Err, Result, sym, refl, ap, ◌∙◌, inl, inr, rules, ltb-true}
+use Rattle.std.proofs.Common.{◌≡◌, ℕ, ◌^◌, ◌<◌, true, ◌&&◌, ltb, List, [], ◌∷◌, length, get_or, Some, None, Ok, Err, Result, sym, refl, ap, ◌∙◌, inl, inr, rules}
 use Rattle.std.specs.Result.{OkIff, result_ok}
 use Rattle.std.specs.Str.Parse.{ParsesUnsigned}
-use Rattle.std.specs.Str.{all_ascii_digits, bytes_eq}
+use Rattle.std.specs.Str.{all_ascii_digits}
 use Rattle.std.proofs.lemmas.Str.Parse.{IsNumeralModel, numerals_by_fold, parse_plain}
-use Rattle.std.proofs.lemmas.Bool.{and_from, and_parts, and_right, lt-ltb, cases_Bool, cond-true, cond-false}
-use Rattle.text.specs.Numbers.{read_on, numeral, number_of, length_of}
+use Rattle.std.proofs.lemmas.Bool.{and_right, cases_Bool, cond-true, cond-false}
+use borrow.Author.Tests.{tests}
+use Rattle.text.specs.Numbers.{read_on, numeral, number_of}
 
 own : IsNumeralModel (λ ds. all_ascii_digits ds ≡ true) (read_on 0)
 own = numerals_by_fold _ (search rules) read_on (search rules)
@@ -14,15 +15,10 @@ abbrev Fit : List ℕ → Type 0
 Fit w = (all_ascii_digits w ≡ true) × (0 < length w) × (read_on 0 w < 2 ^ 32)
 
 numeral_from : (w : List ℕ) → Fit w → numeral w ≡ true
-numeral_from w h =
-    and_from (ltb 0 (length w)) (all_ascii_digits w && ltb (read_on 0 w) (2 ^ 32)) (lt-ltb 0 (length w) h.1)
-    (and_from (all_ascii_digits w) (ltb (read_on 0 w) (2 ^ 32)) h.0 (lt-ltb (read_on 0 w) (2 ^ 32) h.2))
+numeral_from w h = search (rules, tests)
 
 fit_from : (w : List ℕ) → numeral w ≡ true → Fit w
-fit_from w h =
-    let p = and_parts (ltb 0 (length w)) (all_ascii_digits w && ltb (read_on 0 w) (2 ^ 32)) h in
-    let q = and_parts (all_ascii_digits w) (ltb (read_on 0 w) (2 ^ 32)) p.1 in
-    (q.0, ltb-true 0 (length w) p.0, ltb-true (read_on 0 w) (2 ^ 32) q.1)
+fit_from w h = search (rules, tests)
 
 of_converted : {E : Type 0} (w : List ℕ) (r : Result ℕ E) → OkIff r (Fit w) (read_on 0 w) → result_ok r ≡ number_of w
 unfolding number_of
@@ -42,7 +38,3 @@ number-signed [] e = refl
 number-signed (c ∷ cs) e =
     sym (cond-false (numeral (c ∷ cs)) (Some (read_on 0 (c ∷ cs))) None
     (and_right (ltb 0 (length (c ∷ cs))) (all_ascii_digits (c ∷ cs) && ltb (read_on 0 (c ∷ cs)) (2 ^ 32)) (rw e refl)))
-
-pub length-number : (w : List ℕ) (needed : ℕ) → false ≡ bytes_eq w (45 ∷ []) → length_of w needed ≡ number_of w
-length-number w needed h =
-    cond-false (bytes_eq w (45 ∷ [])) (Some needed) (number_of w) (sym h)

@@ -1,19 +1,20 @@
 -- The words of a text, one after another.
-use Rattle.std.proofs.Common.{◌≡◌, ℕ, ◌<◌, List, [], ◌∷◌, ◌++◌, length, sym, subst, append_assoc, append-nil}
-use Rattle.std.specs.Char.{is_whitespace, is_not_whitespace}
-use Rattle.std.specs.Str.{NoCharPasses, EmptyOrStartsWithPassing}
-use Rattle.text.specs.Words.{First, Words}
+use Rattle.std.proofs.Common.{◌≡◌, ℕ, List, [], ◌∷◌, map, None, Ok, Err, Result, IfOk, Vec, Bor, vec_items, sym, subst}
+use Rattle.std.proofs.lemmas.Iterator.{IsCollectResult}
+use Rattle.std.specs.Iterator.{Yields}
+use Rattle.std.specs.Str.Iter.{split_whitespace_rest, split_whitespace_steps}
+use Rattle.std.specs.declared.str.SplitWhitespace.{SplitWhitespace}
+use Rattle.text.specs.Words.{Words}
 
--- seen are the words of text before rest
-abbrev pub Before : List ℕ → List ℕ → List (List ℕ) → Type 0
-Before text rest seen = (ws : List (List ℕ)) → Words rest ws → Words text (seen ++ ws)
+-- the words that `split_whitespace` gives up to its end
+yielded : (ws : List (Bor (List ℕ))) (s t u : SplitWhitespace) → Yields split_whitespace_steps s ws t → split_whitespace_steps t None u → Words (split_whitespace_rest s) (map (λ w. w.now) ws)
+yielded [] s t u same none = rw same none.1
+yielded (w ∷ ws) s t u step none =
+    let cut = step.1 in
+    (split_whitespace_rest step.0, record { gap = cut.0; cut = cut.1; some = cut.2; blank = cut.3; solid = cut.4; ends = cut.5 }, yielded ws step.0 t u step.2 none)
 
--- what `split_whitespace` says of a word
-pub first_word : (bs w rest : List ℕ) → (gap : List ℕ) × (bs ≡ gap ++ (w ++ rest)) × (0 < length w) × NoCharPasses is_not_whitespace gap × NoCharPasses is_whitespace w × ((more : List ℕ) × EmptyOrStartsWithPassing is_whitespace rest more) → First bs w rest
-first_word bs w rest cut = record { gap = cut.0; cut = cut.1; some = cut.2; blank = cut.3; solid = cut.4; ends = cut.5 }
-
-pub one_more : (text rest next : List ℕ) (seen : List (List ℕ)) (w : List ℕ) → Before text rest seen → First rest w next → Before text next (seen ++ (w ∷ []))
-one_more text rest next seen w old first ws h = subst (Words text) (sym (append_assoc seen (w ∷ []) ws)) (old (w ∷ ws) (next, first, h))
-
-pub no_more : (text rest : List ℕ) (seen : List (List ℕ)) → Before text rest seen → Words rest [] → Words text seen
-no_more text rest seen old none = subst (Words text) (append-nil seen) (old [] none)
+pub words_of : {Z E : Type 0} (line : List ℕ) (s : SplitWhitespace) (r : Result (Vec (Bor (List ℕ)) Z) E) → split_whitespace_rest s ≡ line → IsCollectResult split_whitespace_steps s r → IfOk r (λ v. Words line (map (λ w. w.now) (vec_items v)))
+words_of line s (Ok v) es ran =
+    let last = ran.1.2 tt in
+    subst (λ ws. Words line (map (λ w. w.now) ws)) (sym ran.2.0) (subst (λ l. Words l (map (λ w. w.now) ran.0)) es (yielded ran.0 s ran.1.0 last.0 ran.1.1 last.1))
+words_of line s (Err e) es ran = tt

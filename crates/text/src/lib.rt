@@ -2,4 +2,6 @@
 #![tactic(auto)]
 
 pub mod read;
+#[cfg(test)]
+mod tests;
 pub mod write;

@@ -1,7 +1,9 @@
 ghost use Rattle.std.specs.Prelude.{◌≡◌, ℕ, List, map, IfOk, Some, None, MatchOption};
+ghost use Rattle.std.specs.Fn.{FnReturnsAt};
+ghost use Rattle.std.specs.List.{Any, AllZip};
 ghost use Rattle.text.specs.Numbers.{number_of, length_of, pair_of, all_of};
 ghost use Rattle.text.specs.Words.{Words};
-ghost use Rattle.text.specs.Elements.{Named, both_mean, BothHeld, both_named};
+ghost use Rattle.text.specs.Elements.{Read, Named, both_mean, BothHeld, both_named};
 
 use algebra::code::Code;
 use algebra::dual::Dual;
@@ -12,93 +14,84 @@ use std::alloc::{AllocError, Global};
 pub fn number(word: &str) -> Option<u32>
     ensures { result ≡ number_of word.now }
 {
+    // parse also takes a plus sign
     if word.starts_with('+') {
-        return None;
+        None
+    } else {
+        word.parse().ok()
     }
-    word.parse::<u32>().ok()
 }
 
 // The words of a line, parted by blanks.
 pub fn words<'a>(heap: Global, line: &'a str) -> Result<Vec<&'a str>, AllocError>
     ensures { IfOk result (λ v. Words line.now (map (λ w. w.now) v.items)) }
 {
+    line.split_whitespace().collect(heap)
+}
+
+// What each of the words is read as, or none where one is read as nothing.
+fn each<T: Drop, P: Fn(&str) -> Option<T>>(
+    heap: Global,
+    words: &[&str],
+    read: P,
+) -> Result<Option<Vec<T>>, AllocError>
+    requires { P.IsAlwaysCallable read }
+    ensures { IfOk result (λ o. MatchOption o (Any (λ w. FnReturnsAt P.Fn read w.now None) words.now) (λ v. AllZip (λ w x. FnReturnsAt P.Fn read w.now (Some x)) words.now v.items)) }
+{
     let mut all = Vec::new(heap);
-    for word in line.split_whitespace() {
-        all.push(word)?;
+    for word in words {
+        let Some(x) = read(word) else {
+            return Ok(None);
+        };
+        all.push(x)?;
     }
-    Ok(all)
+    Ok(Some(all))
 }
 
 // The numbers that the words stand for, or none where one stands for no number.
 pub fn numbers(heap: Global, words: &[&str]) -> Result<Option<Vec<u32>>, AllocError>
     ensures { IfOk result (λ o. MatchOption o (all_of (λ w. number_of w.now) words.now ≡ None) (λ v. all_of (λ w. number_of w.now) words.now ≡ Some v.items)) }
 {
-    let mut all = Vec::new(heap);
-    for word in words {
-        let Some(n) = number(word) else {
-            return Ok(None);
-        };
-        all.push(n)?;
-    }
-    Ok(Some(all))
+    each(heap, words, number)
 }
 
 // The numbers as codes, whether or not they are codes of a field.
 pub fn codes(heap: Global, numbers: &[u32]) -> Result<Vec<Code>, AllocError>
     ensures { IfOk result (λ v. map (λ c. c.0) v.items ≡ numbers.now) }
 {
-    let mut all = Vec::new(heap);
-    for n in numbers {
-        all.push(Code(*n))?;
-    }
-    Ok(all)
+    numbers.iter().map(|n| Code(*n)).collect(heap)
 }
 
 // The elements of a row of codes.
 pub fn elements<F: Field + Drop>(heap: Global, codes: &[u32]) -> Result<Vec<F>, AllocError>
     ensures { IfOk result (λ v. Named F.Ring.value F.Ring.canonical (λ c. F.Ring.value (F.Field.at c)) codes.now v.items) }
 {
-    let mut all = Vec::new(heap);
-    for code in codes {
-        all.push(F::from_code(Code(*code)))?;
-    }
-    Ok(all)
+    codes
+        .iter()
+        .map(|code| F::from_code(Code(*code)))
+        .collect(heap)
 }
 
-// The two numbers with a colon between them that a word stands for.
-fn pair(word: &str) -> Option<(u32, u32)>
-    ensures { result ≡ pair_of word.now }
+// The dual number that a word of two numbers with a colon between stands for.
+fn dual<F: Field>(word: &str) -> Option<Dual<F>>
+    ensures { Read (both_mean F.Ring.value) (BothHeld F.Ring.canonical) (both_named (λ c. F.Ring.value (F.Field.at c))) (pair_of word.now) result }
 {
-    let Some((re, eps)) = word.split_once(':') else {
-        return None;
-    };
-    let Some(re) = number(re) else {
-        return None;
-    };
-    let Some(eps) = number(eps) else {
-        return None;
-    };
-    Some((re, eps))
+    let (re, eps) = word.split_once(':')?;
+    let (re, eps) = (number(re)?, number(eps)?);
+    Some(Dual {
+        re: F::from_code(Code(re)),
+        eps: F::from_code(Code(eps)),
+    })
 }
 
-// The dual numbers that words of two numbers with a colon between stand for, or none where one stands for none.
+// The dual numbers that the words stand for, or none where one stands for none.
 pub fn pairs<F: Field + Drop>(
     heap: Global,
     words: &[&str],
 ) -> Result<Option<Vec<Dual<F>>>, AllocError>
     ensures { IfOk result (λ o. MatchOption o (all_of (λ w. pair_of w.now) words.now ≡ None) (λ v. (codes : List (ℕ × ℕ)) × (all_of (λ w. pair_of w.now) words.now ≡ Some codes) × Named (both_mean F.Ring.value) (BothHeld F.Ring.canonical) (both_named (λ c. F.Ring.value (F.Field.at c))) codes v.items)) }
 {
-    let mut all = Vec::new(heap);
-    for word in words {
-        let Some((re, eps)) = pair(word) else {
-            return Ok(None);
-        };
-        all.push(Dual {
-            re: F::from_code(Code(re)),
-            eps: F::from_code(Code(eps)),
-        })?;
-    }
-    Ok(Some(all))
+    each(heap, words, |word| dual::<F>(word))
 }
 
 // A length: the number that the word stands for, or what is needed where the word is a hyphen.
@@ -106,10 +99,8 @@ pub fn length(word: &str, needed: usize) -> Option<usize>
     ensures { result ≡ length_of word.now needed }
 {
     if word == "-" {
-        return Some(needed);
-    }
-    match number(word) {
-        Some(n) => Some(n as usize),
-        None => None,
+        Some(needed)
+    } else {
+        number(word).map(|n| n as usize)
     }
 }

@@ -1,12 +1,11 @@
-use Rattle.std.proofs.Common.{ℕ, List, [], ◌∷◌, ◌++◌, map, get_or, vec_items, sym, ap, ◌∙◌}
-use Rattle.std.proofs.lemmas.List.{take_all, take_more, map_push}
+use Rattle.std.proofs.Common.{◌≡◌, rules, ◌∙◌, vec_items}
+use Rattle.std.proofs.lemmas.Result.{IfOk-weaker}
+use Rattle.std.proofs.lemmas.List.{map-id}
+use Rattle.text.proofs.Made.{collected}
+use Rattle.text.proofs.Rows.{named_zip}
 use Rattle.text.proofs.read.codes.Goals as goal
 
-pub loop-n-preserved : goal.loop-n-preserved
-loop-n-preserved c =
-    let more = take_more c.args.numbers.now c.loop-n.n-index 0 c.loop-n-test.true in
-    ap (map (λ x. x.0)) c.in_ok-push.ensures.items ∙ map_push (λ x. x.0) (vec_items c.loop-n.all) _
-    ∙ ap (λ (ns : List ℕ). ns ++ (get_or c.args.numbers.now c.loop-n.n-index 0 ∷ [])) c.loop-n.invariant ∙ sym more
-
 pub returns : goal.returns
-returns c = c.loop-n.invariant ∙ take_all c.loop-n.n-index c.args.numbers.now c.loop-n-test.false
+returns c =
+    IfOk-weaker c.collect.result _ _ (λ v z. (named_zip (λ x. x.0) (λ x. Unit {0}) (λ n. n) c.args.numbers.now (vec_items v) z).means ∙ map-id c.args.numbers.now)
+    (collected (λ n x. (x.0 ≡ n) × Unit {0}) c.map.result c.collect.result c.collect.ensures.ran (cc) c.map.ensures.closure (λ x y q k. search rules))

@@ -9,8 +9,8 @@ returns-then-starts_with c =
     let starts = starts_char 43 c.args.word.now true c.if-starts_with.ensures.cases (omega arith) (omega arith) in
     number-signed c.args.word.now (starts.0 refl)
 
-pub returns : goal.returns
-returns c =
+pub returns-else-starts_with : goal.returns-else-starts_with
+returns-else-starts_with c =
     let starts = starts_char 43 c.args.word.now false c.if-starts_with.ensures.cases (omega arith) (omega arith) in
     c.ok.ensures.value
     ∙ number_parsed c.args.word.now c.parse.result c.parse.ensures.value.0 (not_from_Decides false starts refl)
