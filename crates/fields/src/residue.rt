@@ -15,7 +15,7 @@ use algebra::ring::Ring;
 // The number of residues, 7 * 2^26 + 1.
 const ORDER: u32 = 469762049;
 
-// A residue modulo ORDER, held by a code. A code of ORDER or more means its rest.
+/// A residue modulo ORDER, held by a code. A code of ORDER or more means its rest.
 #[derive(Clone, Copy, Debug)]
 pub struct Residue {
     pub code: Code,
