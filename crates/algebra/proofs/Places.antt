@@ -1,5 +1,5 @@
 -- What is read out of and written into a slice, place by place.
-use Rattle.std.proofs.Common.{◌≡◌, ℕ, suc, ◌+◌, ◌-◌, ◌<◌, ◌≤◌, ◌≢◌, List, [], ◌∷◌, map, length, get_or, take, set, refl, sym, ap, ◌∙◌, arith, length-take, get_or-set_other, get_or-set_same, below_more}
+use Rattle.std.proofs.Common.{◌≡◌, ℕ, suc, ◌+◌, ◌-◌, ◌<◌, ◌≤◌, ◌≢◌, List, [], ◌∷◌, map, length, get_or, take, set, refl, sym, ap, ap₂, ◌∙◌, arith, length-take, get_or-set_other, get_or-set_same, below_more}
 use Rattle.std.proofs.lemmas.List.{get_or-map, get_or-take}
 use Rattle.std.proofs.lemmas.Grind.{common_steps}
 use Rattle.std.specs.List.{push, slice_range}
@@ -22,6 +22,15 @@ pub front_value : {S V : Type 0} (value : S → V) (out : List S) (n k : ℕ) (v
 front_value value [] n k v e h long at = let none : ⊥ = omega arith in absurd none
 front_value value (x ∷ xs) n k v e h long at =
     get_or-map value (take n (x ∷ xs)) k x e (omega (arith, length-take n (x ∷ xs))) ∙ ap value (get_or-take n (x ∷ xs) k x h) ∙ at x
+
+-- a slice that holds these values, place by place
+pub values_same : {S V : Type 0} (value : S → V) (xs : List S) (ys : List V) (e : V) → length xs ≡ length ys
+    → ((k : ℕ) (d : S) → k < length xs → value (get_or xs k d) ≡ get_or ys k e) → map value xs ≡ ys
+values_same value [] [] e l h = refl
+values_same value [] (y ∷ ys) e l h = let none : ⊥ = omega arith in absurd none
+values_same value (x ∷ xs) [] e l h = let none : ⊥ = omega arith in absurd none
+values_same value (x ∷ xs) (y ∷ ys) e l h =
+    ap₂ ◌∷◌ (h 0 x (omega arith)) (values_same value xs ys e (omega arith) (λ k d b. h (suc k) d (omega arith)))
 
 -- the m places on each side of k, the nearest last and first
 pub record Around {X : Type 0} (xs before after : List X) (k m : ℕ) : Type 0 where

@@ -1,7 +1,7 @@
 -- A power by squaring: answer times square to what is left stays the same.
 use Rattle.std.proofs.Common.{◌≡◌, ℕ, suc, ◌+◌, ◌/◌, ◌%◌, ◌≢◌, sym, refl, ap, ◌∙◌, arith}
 use Rattle.algebra.specs.Rings.{Ops, Lawful, power, raised}
-use Rattle.algebra.specs.RingsLemmas.{unit-times, power-add, power-times}
+use Rattle.algebra.specs.RingsLemmas.{power-add, power-times}
 
 pub raised-power : (o : Ops) (x : o.V) (n : ℕ) → raised o x n ≡ power o x n
 unfolding raised
@@ -10,9 +10,6 @@ raised-power o x n = refl
 module _ (o : Ops) (L : Lawful o) where
   half_power : (s : o.V) (h : ℕ) → power o s (h + h) ≡ power o (o.times s s) h
   half_power s h = power-add o L s h h ∙ sym (power-times o L s s h)
-
-  pub raised_start : (a x : o.V) (n : ℕ) → a ≡ o.unit → o.times a (raised o x n) ≡ raised o x n
-  raised_start a x n e = ap (λ t. o.times t (raised o x n)) e ∙ unit-times o L (raised o x n)
 
   pub raised_end : (a s : o.V) (n : ℕ) → n ≡ 0 → o.times a (raised o s n) ≡ a
   unfolding raised

@@ -5,7 +5,7 @@ ghost use Rattle.algebra.specs.DualsLemmas.{dual_lawful};
 
 use crate::ring::Ring;
 
-// The dual number re + eps ε, where ε ε = 0.
+/// The dual number re + eps ε, where ε ε = 0.
 #[derive(Clone, Copy, Debug)]
 pub struct Dual<R> {
     pub re: R,

@@ -7,7 +7,7 @@ ghost use Rattle.algebra.specs.Fields.{Bounded, Tower, Coded, Inverse, Invertibl
 use crate::code::Code;
 use crate::ring::Ring;
 
-// A finite field with codes and a tower of squarings. Its laws stand in what its functions promise.
+/// A finite field with codes and a tower of squarings. Its laws stand in what its functions promise.
 pub trait Field: Ring {
     // the number of elements
     ghost order: { ℕ };
@@ -34,7 +34,7 @@ pub trait Field: Ring {
     fn height() -> u32
         ensures { result ≡ levels };
 
-    // the element of a code; zero for a code that is none
+    /// the element of a code; zero for a code that is none
     fn from_code(code: Code) -> Self
         ensures means { Self.Ring.value result ≡ Self.Ring.value (at code.0) }
         ensures held { Self.Ring.canonical result }
@@ -60,7 +60,7 @@ pub trait Field: Ring {
     ghost aligned: { align (layout Self.row) ≤ 64 };
 }
 
-// All that the functions of a field promise, gathered for the code that stands on it. Answers the field's order.
+/// All that the functions of a field promise, gathered for the code that stands on it. Answers the field's order.
 pub fn field_laws<F: Field>() -> u32
     ensures answer { result ≡ F.Field.order }
     ensures laws { IsField F.Ring.ring F.Field.order F.Field.odd F.Field.levels (λ c. F.Ring.value (F.Field.at c)) (F.Ring.value F.Field.zeta) }
@@ -72,7 +72,7 @@ pub fn field_laws<F: Field>() -> u32
     F::size()
 }
 
-// The sum of n ones, for which the whole number n stands.
+/// The sum of n ones, for which the whole number n stands.
 pub fn whole<F: Field>(n: u32) -> F
     ensures means { F.Ring.value result ≡ number F.Ring.ring n }
     ensures held { F.Ring.canonical result }

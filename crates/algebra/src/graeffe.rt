@@ -7,7 +7,7 @@ ghost use Rattle.algebra.specs.Transforms.{values, transforming, Transformed};
 use crate::refusal::Refusal;
 use crate::ring::Ring;
 
-// The most coefficients that a polynomial may have.
+/// The most coefficients that a polynomial may have.
 pub const MOST: usize = 257;
 
 // (-1)^k times the coefficient at 2k of f(x) f(-x). The places i and 2k - i give the same term, so the sum is the middle
@@ -32,7 +32,7 @@ fn middle<R: Ring>(f: &[R], k: usize) -> R
     f[k].mul(f[k]).add(half.add(half).neg())
 }
 
-// The coefficient at k of the Graeffe transform of f; zero past its end.
+/// The coefficient at k of the Graeffe transform of f; zero past its end.
 pub fn graeffe_at<R: Ring>(f: &[R], k: usize) -> R
     ensures means { R.Ring.value result ≡ coefficient R.Ring.ring (transform R.Ring.ring (values R.Ring f.now)) k }
     ensures held { R.Ring.canonical result }
@@ -48,7 +48,7 @@ pub fn graeffe_at<R: Ring>(f: &[R], k: usize) -> R
     }
 }
 
-// Writes the Graeffe transform of f into the front of out, and leaves the rest of it.
+/// Writes the Graeffe transform of f into the front of out, and leaves the rest of it.
 pub fn graeffe<R: Ring>(f: &[R], out: &mut [R]) -> Result<(), Refusal>
     ensures answers { reply result ≡ transforming (length f.now) (length out.old) }
     ensures leaves { MatchResult result (λ _. Transformed R.Ring f.now out.old out.new) (λ _. out.new ≡ out.old) }

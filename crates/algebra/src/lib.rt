@@ -1,4 +1,4 @@
-// Rings, dual numbers, fields, and polynomials with their Graeffe transform. Every function is generic over the ring or field.
+//! Rings, dual numbers, fields, and polynomials with their Graeffe transform. Every function is generic over the ring or field.
 #![tactic(auto)]
 
 pub mod code;

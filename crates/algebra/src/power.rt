@@ -3,7 +3,7 @@ ghost use Rattle.algebra.specs.Rings.{raised};
 
 use crate::ring::Ring;
 
-// x to the power of the exponent, by squaring.
+/// x to the power of the exponent, by squaring.
 pub fn power<R: Ring>(x: R, exponent: u32) -> R
     ensures means { R.Ring.value result ≡ raised R.Ring.ring (R.Ring.value x) exponent }
     ensures held { R.Ring.canonical result }

@@ -1,8 +1,8 @@
 ghost use Rattle.std.specs.Prelude.{◌≡◌};
 ghost use Rattle.algebra.specs.Rings.{Ops, Lawful};
 
-// A commutative ring. What an element means is a value of the carrier; how it is held is its own affair.
-// Every function takes elements however they are held, and answers one in canonical form.
+/// A commutative ring. What an element means is a value of the carrier; how it is held is its own affair.
+/// Every function takes elements however they are held, and answers one in canonical form.
 pub trait Ring: Copy {
     ghost ring: { Ops };
 
@@ -32,7 +32,7 @@ pub trait Ring: Copy {
         ensures means { value result ≡ ring.minus (value self) }
         ensures held { canonical result };
 
-    // whether the two mean the same; a derived == would compare how they are held
+    /// whether the two mean the same; a derived == would compare how they are held
     fn same(self, other: Self) -> bool
         ensures { result ≡ ring.alike (value self) (value other) };
 

@@ -1,4 +1,4 @@
-// The fields that the programs work over. Nothing outside this crate knows a modulus.
+//! The fields that the programs work over. Nothing outside this crate knows a modulus.
 #![tactic(auto)]
 
 pub mod residue;

@@ -15,18 +15,18 @@ use algebra::ring::Ring;
 // The number of residues, 7 * 2^26 + 1.
 const ORDER: u32 = 469762049;
 
-// A residue modulo ORDER, held by a code. A code of ORDER or more means its rest.
+/// A residue modulo ORDER, held by a code. A code of ORDER or more means its rest.
 #[derive(Clone, Copy, Debug)]
 pub struct Residue {
     pub code: Code,
 }
 
+// Widened by `as`: by u64::from the program bench takes 49 microseconds in place of 31, and rootbench 6400 in place of 5800.
 impl From<u64> for Residue {
     ghost from_gives = { λ n r. r.code.0 ≡ n % shop_order };
 
     // the residue of a number, held by its code
     fn from(n: u64) -> Residue {
-        // `as` and not u64::from, by which the transform of the program bench takes 49 microseconds in place of 31
         Residue {
             code: Code((n % ORDER as u64) as u32),
         }
@@ -55,15 +55,15 @@ impl Ring for Residue {
     }
 
     fn add(self, other: Residue) -> Residue {
-        Residue::from(u64::from(self.code.0) + u64::from(other.code.0))
+        Residue::from(self.code.0 as u64 + other.code.0 as u64)
     }
 
     fn mul(self, other: Residue) -> Residue {
-        Residue::from(u64::from(self.code.0) * u64::from(other.code.0))
+        Residue::from(self.code.0 as u64 * other.code.0 as u64)
     }
 
     fn neg(self) -> Residue {
-        Residue::from(u64::from(ORDER - self.to_code().0))
+        Residue::from((ORDER - self.to_code().0) as u64)
     }
 
     fn same(self, other: Residue) -> bool {

@@ -29,8 +29,8 @@ const POWERS: [u32; 16] = [1, 3, 9, 10, 13, 5, 15, 11, 16, 14, 8, 7, 4, 12, 2, 6
 // The power number of each code from 1 to 16. There is none of the code 0.
 const NUMBERS: [u32; 17] = [0, 0, 14, 1, 12, 5, 15, 11, 10, 2, 3, 7, 13, 4, 9, 6, 8];
 
-// An element of the field of 17 elements: the power of 3 with this number, or zero where there is none.
-// Numbers that have the same rest modulo 16 mean the same power.
+/// An element of the field of 17 elements: the power of 3 with this number, or zero where there is none.
+/// Numbers that have the same rest modulo 16 mean the same power.
 #[derive(Clone, Copy, Debug)]
 pub struct Seventeen {
     pub power: Option<Exponent>,

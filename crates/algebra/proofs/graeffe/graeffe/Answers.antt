@@ -1,12 +1,12 @@
-use Rattle.std.proofs.Common.{◌≡◌, ℕ, ◌<◌, ◌++◌, length, get_or, take, drop, sym, ◌∙◌, subst, arith}
+use Rattle.std.proofs.Common.{◌≡◌, ◌++◌, length, take, drop, arith}
 use Rattle.std.proofs.lemmas.Slice.{drop-append-drop}
+use Rattle.std.proofs.Math.Seq.{take-append_seam}
 use lib.ListN.{length-map}
 use Rattle.std.proofs.lemmas.Grind.{common_steps}
-use Rattle.std.proofs.lemmas.List.{ext_get_or, get_or_append_left}
-use Rattle.algebra.specs.Polynomials.{coefficient}
-use Rattle.algebra.specs.Graeffe.{Graeffe, transform}
+use Rattle.std.proofs.lemmas.List.{get_or_append_left}
+use Rattle.algebra.specs.Graeffe.{transform}
 use Rattle.algebra.specs.Transforms.{values}
-use Rattle.algebra.proofs.Places.{front_value}
+use Rattle.algebra.proofs.Places.{values_same}
 use Rattle.algebra.proofs.GraeffeLaws.{transform_law, length-transform}
 use Rattle.algebra.proofs.graeffe.graeffe.Goals as goal
 
@@ -20,15 +20,11 @@ returns-clause-leaves g c =
     let items = c.loop-k.place-items in
     let out = items ++ drop n c.args.out.now in
     let long : length items ≡ n = grind (arith, common_steps) in
-    let P : ℕ → _ → Type 0 = λ j x. (R.value x ≡ coefficient o (transform o (values R f)) j) × R.canonical x in
-    let at : (k : ℕ) (d : _) → k < n → P k (get_or out k d) = λ k d h.
-    subst (P k) (sym (get_or_append_left items (drop n c.args.out.now) d k (omega arith))) (c.loop-k.invariant k d (omega arith)) in
-    let written : values R (take n out) ≡ transform o (values R f) =
-    ext_get_or o.nought _ _
-    (length-map (take n out) R.value ∙ grind (arith, common_steps, length-transform o L (values R f), length-map f R.value))
-    (λ k h. front_value R.value out n k _ o.nought (grind (arith, common_steps, length-map (take n out) R.value)) (grind (arith, common_steps)) (λ d. (at k d (grind (arith, common_steps, length-map (take n out) R.value))).0)) in
+    let front : take n out ≡ items = rw (← long) (take-append_seam items (drop (length items) c.args.out.now)) in
+    let written : values R items ≡ transform o (values R f) =
+    values_same R.value items _ o.nought (omega (arith, length-transform o L (values R f), length-map f R.value)) (λ k d h. (c.loop-k.invariant k d (omega arith)).0) in
     record {
-      front = subst (Graeffe o (values R f)) (sym written) (transform_law o L (values R f));
-      held = λ k d h. (at k d h).1;
+      front = rw (front, written) (transform_law o L (values R f));
+      held = λ k d h. rw (get_or_append_left items (drop n c.args.out.now) d k (omega arith)) (c.loop-k.invariant k d (omega arith)).1;
       rest = drop-append-drop n c.args.out.now items n (omega arith) long;
     }

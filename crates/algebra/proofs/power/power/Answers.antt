@@ -1,5 +1,4 @@
-use Rattle.std.proofs.Common.{◌≡◌, ◌/◌, sym, ap, ◌∙◌, subst, ap₂, arith}
-use Rattle.algebra.specs.Rings.{raised}
+use Rattle.std.proofs.Common.{sym, subst, arith}
 use Rattle.algebra.proofs.Raised.{raised_end, raised_even, raised_odd}
 use Rattle.algebra.proofs.power.power.Goals as goal
 use Rattle.algebra.proofs.power.power.Goals.{then-left-eq1, else-left-eq1}
@@ -12,20 +11,15 @@ loop-left-preserved g c =
     let a = R.value c.loop-left.answer in
     let s = R.value c.loop-left.square in
     let n = c.loop-left.left in
-    let twice : R.value c.mul-square.result ≡ o.times s s = c.mul-square.ensures.means in
     elim c.if-left-eq1.branch [
-      | then-left-eq1 w ↦
-          (let more : R.value c.if-left-eq1.answer ≡ o.times a s = ap R.value w.answer-is ∙ w.mul-answer.ensures.means in (
-            ap₂ (λ t u. o.times t (raised o u (n / 2))) more twice ∙ sym (raised_odd o L a s n w.if-left-eq1.true) ∙ c.loop-left.invariant.0,
-            subst R.canonical (sym w.answer-is) w.mul-answer.ensures.held,
-          ))
-      | else-left-eq1 w ↦ (
-        ap₂ (λ t u. o.times t (raised o u (n / 2))) (ap R.value w.answer-is) twice ∙ ap (o.times a) (sym (raised_even o L s n w.if-left-eq1.false)) ∙ c.loop-left.invariant.0,
-        subst R.canonical (sym w.answer-is) c.loop-left.invariant.1,
+      | then-left-eq1 w ↦ (
+        cc (w.mul-answer.ensures.means, raised_odd o L a s n w.if-left-eq1.true),
+        subst R.canonical (sym w.answer-is) w.mul-answer.ensures.held,
       )
+      | else-left-eq1 w ↦ (cc (raised_even o L s n w.if-left-eq1.false), subst R.canonical (sym w.answer-is) c.loop-left.invariant.1)
     ]
 
 pub returns-clause-means : goal.returns-clause-means
 returns-clause-means g c =
     let R = g.R.Ring in
-    sym (raised_end R.ring g.met.R.Ring.lawful (R.value c.loop-left.answer) (R.value c.loop-left.square) c.loop-left.left (omega arith)) ∙ c.loop-left.invariant.0
+    cc (raised_end R.ring g.met.R.Ring.lawful (R.value c.loop-left.answer) (R.value c.loop-left.square) c.loop-left.left (omega arith))
