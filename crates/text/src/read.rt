@@ -38,6 +38,7 @@ fn each<T: Drop, P: Fn(&str) -> Option<T>>(
     requires { P.IsAlwaysCallable read }
     ensures { IfOk result (λ o. MatchOption o (Any (λ w. FnReturnsAt P.Fn read w.now None) words.now) (λ v. AllZip (λ w x. FnReturnsAt P.Fn read w.now (Some x)) words.now v.items)) }
 {
+    // A loop, since what is collected into an Option promises nothing of where it stops.
     let mut all = Vec::new(heap);
     for word in words {
         let Some(x) = read(word) else {
