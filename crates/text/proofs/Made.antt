@@ -19,16 +19,16 @@ Makes {A} {B} {F} g R f = (x : Bor A) (y : B) (q : F) → Called g f (x, tt) y q
 
 module _ {A B F : Type 0} {g : Mut F (Bor A × Unit {0}) B} (R : A → B → Type 0) where
   made : (ys : List B) (s t u : Map (Iter A) F) → Makes g R (map_callee s) → Yields (maps fronts g) s ys t → maps fronts g t None u → AllZip R (iter_rest (map_source s)) ys
-  made [] s t u makes same none = subst (λ xs. AllZip R xs []) (sym (nil_from_length (iter_rest (map_source s)) (rw same none.0.0))) tt
-  made (y ∷ ys) s t u makes step none =
-      let turn = makes step.1.0 y (map_callee step.0) step.1.2 in
-      subst (λ xs. AllZip R xs (y ∷ ys)) (sym step.1.1) (turn.1, made ys step.0 t u (subst (Makes g R) (sym turn.0) makes) step.2 none)
+  made [] s t u each same none = subst (λ xs. AllZip R xs []) (sym (nil_from_length (iter_rest (map_source s)) (rw same none.0.0))) tt
+  made (y ∷ ys) s t u each step none =
+      let turn = each step.1.0 y (map_callee step.0) step.1.2 in
+      subst (λ xs. AllZip R xs (y ∷ ys)) (sym step.1.1) (turn.1, made ys step.0 t u (subst (Makes g R) (sym turn.0) each) step.2 none)
 
   pub gathered : {Z : Type 0} {f : F} {xs : List A} (s : Map (Iter A) F) (v : Vec B Z) → (ys : List B) × DrainsIf (maps fronts g) ⊤ s ys × ((vec_items v ≡ ys) × (vec_len v ≡ length ys)) → iter_rest (map_source s) ≡ xs → map_callee s ≡ f → Makes g R f → AllZip R xs (vec_items v)
-  gathered {xs = xs} s v ran es ef makes =
+  gathered {xs = xs} s v ran es ef each =
       let last = ran.1.2 tt in
-      subst (λ ys. AllZip R xs ys) (sym ran.2.0) (subst (λ ws. AllZip R ws ran.0) es (made ran.0 s ran.1.0 last.0 (subst (Makes g R) (sym ef) makes) ran.1.1 last.1))
+      subst (λ ys. AllZip R xs ys) (sym ran.2.0) (subst (λ ws. AllZip R ws ran.0) es (made ran.0 s ran.1.0 last.0 (subst (Makes g R) (sym ef) each) ran.1.1 last.1))
 
   pub collected : {Z E : Type 0} {f : F} {xs : List A} (s : Map (Iter A) F) (r : Result (Vec B Z) E) → IsCollectResult (maps fronts g) s r → iter_rest (map_source s) ≡ xs → map_callee s ≡ f → Makes g R f → IfOk r (λ v. AllZip R xs (vec_items v))
-  collected s (Ok v) ran es ef makes = gathered s v ran es ef makes
-  collected s (Err e) ran es ef makes = tt
+  collected s (Ok v) ran es ef each = gathered s v ran es ef each
+  collected s (Err e) ran es ef each = tt

@@ -13,12 +13,12 @@ BothHeld canonical x = canonical x.re × canonical x.eps
 abbrev pub both_named : {N V : Type 0} → (N → V) → N × N → V × V
 both_named of p = (of p.0, of p.1)
 
--- what is read is the element, in canonical form, that the name stands for: nothing where there is no name
-abbrev pub Read : {N S V : Type 0} → (S → V) → (S → Type 0) → (N → V) → Option N → Option S → Type 0
-Read value canonical of (Some n) (Some x) = (value x ≡ of n) × canonical x
-Read value canonical of (Some n) None = ⊥
-Read value canonical of None (Some x) = ⊥
-Read value canonical of None None = Unit {0}
+-- what is read is the element, in canonical form, that the name stands for, and nothing where there is no name
+abbrev pub IsRead : {N S V : Type 0} → (S → V) → (S → Type 0) → (N → V) → Option N → Option S → Type 0
+IsRead value canonical of (Some n) (Some x) = (value x ≡ of n) × canonical x
+IsRead value canonical of (Some n) None = ⊥
+IsRead value canonical of None (Some x) = ⊥
+IsRead value canonical of None None = Unit {0}
 
 -- the elements are those that the names stand for, in order, each in canonical form
 pub record Named {N S V : Type 0} (value : S → V) (canonical : S → Type 0) (of : N → V) (names : List N) (xs : List S) : Type 0 where

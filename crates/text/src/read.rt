@@ -3,7 +3,7 @@ ghost use Rattle.std.specs.Fn.{FnReturnsAt};
 ghost use Rattle.std.specs.List.{Any, AllZip};
 ghost use Rattle.text.specs.Numbers.{number_of, length_of, pair_of, all_of};
 ghost use Rattle.text.specs.Words.{Words};
-ghost use Rattle.text.specs.Elements.{Read, Named, both_mean, BothHeld, both_named};
+ghost use Rattle.text.specs.Elements.{IsRead, Named, both_mean, BothHeld, both_named};
 
 use algebra::code::Code;
 use algebra::dual::Dual;
@@ -38,6 +38,7 @@ fn each<T: Drop, P: Fn(&str) -> Option<T>>(
     requires { P.IsAlwaysCallable read }
     ensures { IfOk result (λ o. MatchOption o (Any (λ w. FnReturnsAt P.Fn read w.now None) words.now) (λ v. AllZip (λ w x. FnReturnsAt P.Fn read w.now (Some x)) words.now v.items)) }
 {
+    // A loop, since what is collected into an Option promises nothing of where it stops.
     let mut all = Vec::new(heap);
     for word in words {
         let Some(x) = read(word) else {
@@ -74,7 +75,7 @@ pub fn elements<F: Field + Drop>(heap: Global, codes: &[u32]) -> Result<Vec<F>, 
 
 // The dual number that a word of two numbers with a colon between stands for.
 fn dual<F: Field>(word: &str) -> Option<Dual<F>>
-    ensures { Read (both_mean F.Ring.value) (BothHeld F.Ring.canonical) (both_named (λ c. F.Ring.value (F.Field.at c))) (pair_of word.now) result }
+    ensures { IsRead (both_mean F.Ring.value) (BothHeld F.Ring.canonical) (both_named (λ c. F.Ring.value (F.Field.at c))) (pair_of word.now) result }
 {
     let (re, eps) = word.split_once(':')?;
     let (re, eps) = (number(re)?, number(eps)?);
