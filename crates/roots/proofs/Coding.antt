@@ -1,5 +1,5 @@
 -- What an accepted row of codes is, and the figures of the search.
-use Rattle.std.proofs.Common.{◌≡◌, ℕ, zero, suc, ◌+◌, ◌-◌, ◌*◌, ◌/◌, ◌^◌, ◌<◌, ◌≤◌, true, false, cond, leb, ◌≢◌, List, [], ◌∷◌, map, length, get_or, sym, refl, ap, ◌∙◌, mul-le-mul_right, add-mul, one-mul, add-one, arith}
+use Rattle.std.proofs.Common.{◌≡◌, ℕ, zero, suc, ◌+◌, ◌-◌, ◌*◌, ◌/◌, ◌^◌, ◌<◌, ◌≤◌, true, false, cond, leb, ◌≢◌, List, [], ◌∷◌, length, get_or, sym, refl, ap, ◌∙◌, ap₂, mul-le-mul_right, add-mul, one-mul, add-one, arith}
 use native.Mathlib.Nat.{mul-div_cancel_left}
 use Rattle.std.proofs.lemmas.List.{get_or-map}
 use Rattle.std.proofs.lemmas.Bool.{leb-false}
@@ -65,27 +65,15 @@ module _ {S : Type 0} (R : RingOf S) (F : FieldOf S) (L : Lawful R.ring)
   pub no_zero_root : ((get_or cs 0 zero_code).0 ≡ 0 → ⊥) → Root R F (polynomial R F cs) 0 → ⊥
   no_zero_root ne r = element_nonzero R F L I (polynomial R F cs) (get_or cs 0 zero_code).0 (code_below F.order cs g.codes 0 zero_code g.some) ne (sym constant ∙ r.1)
 
-  -- and then there is a record for it
-  pub zero_fits : (get_or cs 0 zero_code).0 ≡ 0 → 1 < length cs
-  zero_fits e = grow (length cs) g.some (λ one. g.top_code (sym (ap (λ n. get_or (map (λ x. x.0) cs) n 0) (last one)) ∙ get_or-map (λ x. x.0) cs 0 zero_code 0 g.some ∙ e))
-    where
-      last : length cs ≡ 1 → 0 ≡ length cs - 1
-      last one = omega arith
-
-      grow : (n : ℕ) → 0 < n → (n ≡ 1 → ⊥) → 1 < n
-      grow n pos ne = omega arith
-
   -- the exponents step by two to the power of the levels
-  pub step_is : (F.order - 1) / F.odd ≡ 2 ^ F.levels
+  step_is : (F.order - 1) / F.odd ≡ 2 ^ F.levels
   step_is =
       let pos : 0 < F.odd = omega (arith, I.tower.odd) in
       let all : F.order - 1 ≡ F.odd * 2 ^ F.levels = omega (arith, I.tower.splits) in
       ap (λ n. n / F.odd) all ∙ mul-div_cancel_left (2 ^ F.levels) pos
 
-  pub step_below : (i : ℕ) → i < F.odd → i * 2 ^ F.levels ≤ F.order
-  step_below i h =
-      let le : i ≤ F.odd = omega arith in
-      omega (arith, I.tower.splits, mul-le-mul_right (2 ^ F.levels) le)
+  pub exponent_is : (q m i : ℕ) → q ≡ F.order → m ≡ F.odd → i * ((q - 1) / m) ≡ i * 2 ^ F.levels
+  exponent_is q m i eq em = ap₂ (λ a b. i * ((a - 1) / b)) eq em ∙ ap (λ n. i * n) step_is
 
   -- room to count the trials
   pub trials_fit : (i t : ℕ) → i < F.odd → t ≤ i * 2 ^ (F.levels + 1) → t + 2 ^ (F.levels + 1) ≤ 2 ^ 63

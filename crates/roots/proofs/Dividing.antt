@@ -1,7 +1,8 @@
 -- Division in place, from the top.
-use Rattle.std.proofs.Common.{◌≡◌, ℕ, zero, suc, ◌+◌, ◌-◌, ◌<◌, ◌≤◌, ◌≢◌, List, [], ◌∷◌, length, get_or, drop, set, sym, refl, ap, ◌∙◌, ap₂, ⊎_elim, eq-or-lt_of_le, arith, length-drop, get_or-set_other, get_or-set_same}
+use Rattle.std.proofs.Common.{◌≡◌, ℕ, zero, suc, ◌+◌, ◌-◌, ◌<◌, ◌≤◌, ◌≢◌, List, [], ◌∷◌, length, get_or, take, drop, set, sym, refl, ap, ◌∙◌, ap₂, ⊎_elim, eq-or-lt_of_le, rules, arith, length-drop, get_or-set_other, get_or-set_same}
 use lib.ListN.{length-map}
-use Rattle.std.proofs.lemmas.List.{get_or-drop, get_or-map, get_or_past}
+use Rattle.std.proofs.lemmas.List.{get_or-drop, get_or-map, get_or_past, places}
+use borrow.Rule.Slice.PartMut.{put_mid}
 use Rattle.algebra.specs.Rings.{Ops, Lawful}
 use Rattle.algebra.specs.Polynomials.{eval, coefficient}
 use Rattle.algebra.specs.declared.dual.Dual.{Dual}
@@ -72,6 +73,14 @@ module _ {S : Type 0} (R : RingOf S) (L : Lawful R.ring) where
     row_quotient = values_are (λ x. R.value x.re) (drop 1 ys) (quotient R.ring a f) R.ring.nought
         (length-quotient R.ring L a f ∙ omega (arith, ap length row-is, length-map xs (λ x. R.value x.re), length-drop 1 ys))
         (λ k d h. let next : 1 + k ≡ suc k = omega arith in ap (λ z. R.value z.re) (get_or-drop 1 ys k d ∙ ap (λ j. get_or ys j d) next) ∙ is (suc k) d (omega (arith, length-drop 1 ys)) ∙ ap (λ p. partial R.ring a p (suc k)) row-is)
+
+  -- the remainder, where the row is a part of a work space
+  pub part_remainder : (xs ys : List (Dual S)) (i k : ℕ) (a : R.ring.V) (f : List R.ring.V) → row R (take k (drop i xs)) ≡ f → i < length xs → 0 < length ys → length ys ≡ length (take k (drop i xs))
+      → ((j : ℕ) (d : Dual S) → j < length ys → R.value (get_or ys j d).re ≡ partial R.ring a (row R (take k (drop i xs))) j)
+      → (d : Dual S) → R.value (get_or (put_mid i k xs ys) i d).re ≡ eval R.ring f a
+  part_remainder xs ys i k a f e inside some same is d =
+      let first : get_or (put_mid i k xs ys) i d ≡ get_or ys 0 d = search (rules, places) in
+      ap (λ x. R.value x.re) first ∙ row_remainder (take k (drop i xs)) ys a f e some same is d
 
   -- the first parts of dual numbers
   pub row-reals : (xs : List (Dual S)) → row R xs ≡ reals (duals R xs)

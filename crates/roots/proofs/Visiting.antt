@@ -14,7 +14,8 @@ use Rattle.roots.specs.Codes.{element}
 use Rattle.algebra.proofs.Raised.{raised-power}
 use Rattle.roots.specs.Roots.{Root, codes}
 use Rattle.roots.specs.declared.record.RootRecord.{RootRecord}
-use Rattle.roots.specs.Verdicts.{Alone}
+use Rattle.roots.specs.Verdicts.{Alone, Judged}
+use Rattle.roots.specs.declared.verdict.Verdict.{Verdict}
 use Rattle.roots.specs.Reaching.{zeta_power, Reach, Below}
 use Rattle.roots.specs.Searches.{Ready, Visited}
 use Rattle.roots.proofs.Towers.{twice_power, power_one}
@@ -165,6 +166,11 @@ module _ {S : Type 0} (R : RingOf S) (F : FieldOf S) (L : Lawful R.ring)
 -- the element tried is the power of the primitive one
 pub tried_power : {S : Type 0} (R : RingOf S) (F : FieldOf S) (x z : R.ring.V) (e : ℕ) → z ≡ R.value F.zeta → x ≡ raised R.ring z e → x ≡ zeta_power R F e
 tried_power R F x z e ez ex = ex ∙ ap (λ b. raised R.ring b e) ez ∙ raised-power R.ring (R.value F.zeta) e
+
+-- so what a trial told there is said of that power
+pub judged_power : {S : Type 0} (R : RingOf S) (F : FieldOf S) (x z : R.ring.V) (e : ℕ) → z ≡ R.value F.zeta → x ≡ raised R.ring z e
+    → (f : List R.ring.V) (k : ℕ) (w : Verdict) → Judged R F f k x w → Judged R F f k (zeta_power R F e) w
+judged_power R F x z e ez ex f k w j = subst (λ b. Judged R F f k b w) (tried_power R F x z e ez ex) j
 
 -- room for the trials of the two visits below
 pub few_first : (t k : ℕ) → 0 < k → t + 2 ^ (k + 1) ≤ 2 ^ 63 → (t + 1) + 2 ^ (k - 1 + 1) ≤ 2 ^ 63

@@ -62,6 +62,7 @@ impl<'a> Found<'a> {
         place(&mut self.list[..=self.count], code);
         self.count += 1;
     }
+
     // Writes the multiplicities of the roots of f that were found.
     pub(crate) fn weigh<F: Field>(&mut self, f: Coefficients<'_, F>, work: &mut [Dual<F>])
         requires { length f.codes.now ≤ length work.old }
@@ -73,6 +74,7 @@ impl<'a> Found<'a> {
     {
         weigh(f, &mut self.list[..self.count], work);
     }
+
     // The multiplicities of the roots found, added up.
     pub(crate) fn total(&self) -> u64
         requires { self.now.count ≤ 256 }

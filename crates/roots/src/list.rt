@@ -3,7 +3,6 @@ ghost use Rattle.algebra.specs.Refusals.{reply};
 ghost use Rattle.roots.specs.Codes.{polynomial};
 ghost use Rattle.roots.specs.Roots.{listing, Listed};
 
-use crate::build::build;
 use crate::coefficients::Coefficients;
 use crate::found::Found;
 use crate::record::RootRecord;
@@ -40,9 +39,8 @@ pub fn roots<F: Field>(
     if work.len() < needed {
         return Err(Refusal::Short(needed));
     }
-    build(f, work);
     let mut found = Found::new(list);
-    TangentTower { f, levels: work }.search(&mut found);
+    TangentTower::new(f, work).search(&mut found);
     found.weigh(f, work);
     Ok(RootList {
         count: found.count,

@@ -7,6 +7,7 @@ ghost use Rattle.roots.specs.Codes.{polynomial, duals};
 ghost use Rattle.roots.specs.Roots.{codes as codes_of, Ascending, Root, Trials};
 ghost use Rattle.roots.specs.Searches.{Holds, Ready, Visited};
 
+use crate::build::build;
 use crate::coefficients::Coefficients;
 use crate::found::Found;
 use crate::trial::judge;
@@ -19,12 +20,21 @@ use algebra::power::power;
 // The tangent tower of a polynomial, level after level.
 #[derive(Drop)]
 pub(crate) struct TangentTower<'a, F: Field> {
-    pub(crate) f: Coefficients<'a, F>,
-    pub(crate) levels: &'a [Dual<F>],
+    f: Coefficients<'a, F>,
+    levels: &'a [Dual<F>],
     ghost holds: { ∥ Holds F.Ring F.Field (polynomial F.Ring F.Field f.codes.now) (length f.codes.now) levels.now ∥₁ },
 }
 
 impl<'a, F: Field> TangentTower<'a, F> {
+    // Writes the tower to the work space.
+    pub(crate) fn new(f: Coefficients<'a, F>, work: &'a mut [Dual<F>]) -> Self
+        requires { (F.Field.levels + 1) * length f.codes.now ≤ length work.old }
+        ensures { result.f.codes.now ≡ f.entry.codes.now }
+    {
+        build(f, work);
+        TangentTower { f, levels: work }
+    }
+
     fn level(&self, k: u32) -> &[Dual<F>]
         requires { k ≤ F.Field.levels }
         ensures { duals F.Ring result.now ≡ tower (dual F.Ring.ring) (tangent F.Ring.ring (polynomial F.Ring F.Field.own self.now.f.codes.now)) k }

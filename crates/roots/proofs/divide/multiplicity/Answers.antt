@@ -1,7 +1,7 @@
-use Rattle.std.proofs.Common.{◌≡◌, suc, ◌+◌, ◌-◌, ◌<◌, ◌++◌, length, get_or, take, drop, sym, ap, ◌∙◌, add-one, arith, rules, below_more, length-take, length-drop}
+use Rattle.std.proofs.Common.{◌≡◌, suc, ◌+◌, ◌-◌, ◌<◌, ◌++◌, length, take, drop, sym, ap, ◌∙◌, add-one, arith, below_more, length-take, length-drop}
 use lib.ListN.{length-map}
 use Rattle.std.specs.List.{between}
-use Rattle.std.proofs.lemmas.List.{drop-drop, take_at, places}
+use Rattle.std.proofs.lemmas.List.{drop-drop, take_at}
 use Rattle.std.proofs.lemmas.Slice.{between_is, between_from_start, between-put_mid}
 use borrow.Rule.Slice.PartMut.{put_mid}
 use Rattle.algebra.specs.Polynomials.{eval}
@@ -12,7 +12,8 @@ use Rattle.roots.proofs.TangentLaws.{tangent-reals}
 use Rattle.roots.proofs.Multiplicities.{divided, divided-suc, multiplicity_from}
 use Rattle.roots.proofs.Judging.{is_nought, not_nought}
 use Rattle.roots.proofs.Coding.{good_from, top_nonzero}
-use Rattle.roots.proofs.Dividing.{row-reals, row_remainder, row_quotient, divided_stops}
+use Rattle.roots.proofs.Building.{length-started}
+use Rattle.roots.proofs.Dividing.{row-reals, part_remainder, row_quotient, divided_stops}
 use Rattle.roots.proofs.divide.multiplicity.Goals as goal
 
 pub loop-e-init : goal.loop-e-init
@@ -37,8 +38,7 @@ returns-then-not-same g c =
     let xs = c.loop-e.work in
     let ys = c.divide.new.level in
     let some : 0 < length ys = omega (arith, c.divide.auto.level, length-take (n - e) (drop e xs), length-drop e xs) in
-    let first : get_or (put_mid e (n - e) xs ys) e c.index-work-e.result ≡ get_or ys 0 c.index-work-e.result = search (rules, places) in
-    let rest = ap (λ x. R.value x.re) first ∙ row_remainder R L (between e n xs) ys a (divided R.ring a e f) c.loop-e.invariant.0 some c.divide.auto.level c.divide.ensures c.index-work-e.result in
+    let rest = part_remainder R L xs ys e (n - e) a (divided R.ring a e f) c.loop-e.invariant.0 (omega (arith, c.loop-e.auto.work, length-started c.start.new.level c.args.work.now n c.start.auto.level, c.requires)) some c.divide.auto.level c.divide.ensures c.index-work-e.result in
     multiplicity_from R.ring L a e f c.loop-e.invariant.1
     (λ z. not_nought R.ring L c.same.result _ (R.value c.zero.result) c.zero.ensures.means c.same.ensures c.if-not-same.true (rest ∙ z))
 
@@ -55,8 +55,7 @@ loop-e-preserved g c =
     let ys = c.divide.new.level in
     let long : length ys ≡ n - e = omega (arith, c.divide.auto.level, length-take (n - e) (drop e xs), length-drop e xs, c.loop-e.auto.work, c.requires) in
     let some : 0 < length ys = omega arith in
-    let first : get_or (put_mid e (n - e) xs ys) e c.index-work-e.result ≡ get_or ys 0 c.index-work-e.result = search (rules, places) in
-    let rest = ap (λ x. R.value x.re) first ∙ row_remainder R L (between e n xs) ys a (divided R.ring a e f) c.loop-e.invariant.0 some c.divide.auto.level c.divide.ensures c.index-work-e.result in
+    let rest = part_remainder R L xs ys e (n - e) a (divided R.ring a e f) c.loop-e.invariant.0 (omega (arith, c.loop-e.auto.work, length-started c.start.new.level c.args.work.now n c.start.auto.level, c.requires)) some c.divide.auto.level c.divide.ensures c.index-work-e.result in
     let vanish : eval o (divided o a e f) a ≡ o.nought =
     sym rest ∙ is_nought o L c.same.result _ (R.value c.zero.result) c.zero.ensures.means c.same.ensures c.if-not-same.false in
     let work = put_mid e (n - e) xs ys in

@@ -1,4 +1,4 @@
-use Rattle.std.proofs.Common.{◌≡◌, ℕ, suc, ◌-◌, Bool, eqb, List, length, take, drop, sym, ap, ◌∙◌, subst, ap₂, arith, rules}
+use Rattle.std.proofs.Common.{◌≡◌, ◌↔◌, ℕ, suc, ◌-◌, Bool, eqb, List, length, take, drop, sym, ap, ◌∙◌, subst, ap₂, arith, rules}
 use lib.ListN.{length-map}
 use Rattle.algebra.specs.declared.code.Code.{Code}
 use Rattle.algebra.specs.declared.ring.Ring.{Ghosts as RingOf}
@@ -6,7 +6,7 @@ use Rattle.algebra.specs.declared.field.Field.{Ghosts as FieldOf}
 use Rattle.roots.specs.Lists.{In}
 use Rattle.roots.specs.declared.record.RootRecord.{RootRecord}
 use Rattle.roots.specs.Codes.{element, polynomial}
-use Rattle.roots.specs.Roots.{codes, Ascending, Listed, Trials}
+use Rattle.roots.specs.Roots.{codes, Ascending, Listed, Root, Trials}
 use Rattle.roots.proofs.Coding.{good_from, top_nonzero}
 use Rattle.roots.proofs.SearchStarts.{roots_fit}
 use Rattle.roots.proofs.Visiting.{length-codes}
@@ -23,9 +23,10 @@ total-requires g c =
     let F = g.F.Field in
     let L = g.met.F.Ring.lawful in
     let I = c.field_laws-order.ensures.laws in
-    let cs = c.in_ok-f.f.codes.now in
+    let f' = c.new-2.result.f in
+    let cs = f'.codes.now in
     let f = polynomial R F cs in
-    let good = good_from F.order cs c.in_ok-f.f.good in
+    let good = good_from F.order cs f'.good in
     let found = c.search.new.found in
     let s = c.search.ensures in
     let long : length f ≡ suc (length cs - 1) = length-map cs (λ x. element R F x.0) ∙ omega (arith, good.some) in
@@ -42,18 +43,21 @@ returns-clause-lists g c =
     let R = g.F.Ring in
     let F = g.F.Field in
     let cs = c.in_ok-f.f.codes.now in
+    let e : c.new-2.result.f.codes.now ≡ cs = c.new-2.ensures in
     let found = c.search.new.found in
     let last = c.weigh.new.self in
     let s = c.search.ensures in
     let w = c.weigh.ensures in
     let same : codes (take last.count last.list.now) ≡ codes (take found.count found.list.now) = w.codes in
+    let all : (x : ℕ) → In x (codes (take found.count found.list.now)) ↔ Root R F (polynomial R F cs) x = subst (λ ds. (x : ℕ) → In x (codes (take found.count found.list.now)) ↔ Root R F (polynomial R F ds) x) e s.roots in
+    let tried : Trials R F (polynomial R F cs) found.trials = subst (λ ds. Trials R F (polynomial R F ds) found.trials) e s.tried in
     let listed : Listed R F (polynomial R F cs) c.args.list.now last.list.now last.count (eqb c.total.result c.degree-degree.result) last.trials = record {
       long = last.inside;
       ascending = subst Ascending (sym same) s.ascending;
-      all = λ x. (λ i. (s.roots x).0 (subst (In x) same i), λ r. subst (In x) (sym same) ((s.roots x).1 r));
+      all = λ x. (λ i. (all x).0 (subst (In x) same i), λ r. subst (In x) (sym same) ((all x).1 r));
       multiplicities = w.weighed;
       rest = w.rest ∙ ap (λ n. drop n found.list.now) w.kept.0 ∙ s.rest ∙ ap₂ drop (sym w.kept.0) c.new-found.ensures.kept;
       splitting = ap₂ eqb c.total.ensures (c.degree-degree.ensures ∙ ap (λ m. m - 1) (sym (length-map cs (λ x. element R F x.0))));
-      tried = subst (Trials R F (polynomial R F cs)) (sym w.kept.1) s.tried;
+      tried = subst (Trials R F (polynomial R F cs)) (sym w.kept.1) tried;
     } in
     listed_in R F _ _ c.in_ok-f.ensures.kept _ _ (search rules) listed

@@ -1,15 +1,11 @@
-use Rattle.std.proofs.Common.{◌+◌, ◌-◌, ◌/◌, take, sym, ap, ◌∙◌, subst, arith, rules}
+use Rattle.std.proofs.Common.{◌+◌, ◌-◌, ◌/◌, take, sym, ◌∙◌, subst, arith, rules}
 use lib.ListN.{length-map}
-use Rattle.algebra.specs.Polynomials.{eval}
-use Rattle.algebra.specs.Graeffe.{tower}
 use Rattle.algebra.proofs.Fields.{zeta_power_nonzero}
 use Rattle.roots.specs.Codes.{element, polynomial}
 use Rattle.roots.specs.Roots.{codes}
-use Rattle.roots.specs.Reaching.{zeta_power}
-use Rattle.roots.specs.Verdicts.{Alone, Judged}
 use Rattle.roots.specs.Searches.{Ready, Visited}
-use Rattle.roots.specs.declared.verdict.Verdict.TheVariants.{Both}
-use Rattle.roots.proofs.Visiting.{put_fits, visited_nothing, visited_root, both_first, both_second, both_visited, tried_power, few_first, few_second, drop_on, length-codes}
+use Rattle.roots.specs.declared.verdict.Verdict.TheVariants.{Nothing, Root, Both}
+use Rattle.roots.proofs.Visiting.{put_fits, visited_nothing, visited_root, both_first, both_second, both_visited, tried_power, judged_power, few_first, few_second, drop_on, length-codes}
 use Rattle.roots.proofs.tower.TangentTower.+visit.Goals as goal
 
 pub judge-requires : goal.judge-requires
@@ -28,8 +24,7 @@ insert-requires-clause-room g t c =
     let k = c.args.k in
     let e = c.args.e.0 in
     let found = c.args.found.now in
-    let tried = tried_power R F (R.value c.power-x.result) (R.value c.primitive.result) e c.primitive.ensures.means c.power-x.ensures.means in
-    let alone : Alone R F f k (zeta_power R F e) c.in-Root.code.0 = subst (λ b. Alone R F f k b c.in-Root.code.0) tried (c.in-Root.ensures f c.level.ensures) in
+    let alone = judged_power R F (R.value c.power-x.result) (R.value c.primitive.result) e c.primitive.ensures.means c.power-x.ensures.means f k (Root c.in-Root.code) (c.in-Root.ensures f c.level.ensures) in
     omega (
       arith,
       c.requires.room,
@@ -45,8 +40,7 @@ visit-requires g t c κs within =
     let f = polynomial R F c.args.self.now.f.codes.now in
     let k = c.args.k in
     let e = c.args.e.0 in
-    let tried = tried_power R F (R.value c.power-x.result) (R.value c.primitive.result) e c.primitive.ensures.means c.power-x.ensures.means in
-    let both : Judged R F f k (zeta_power R F e) Both = subst (λ b. Judged R F f k b Both) tried (c.in-Both.ensures f c.level.ensures) in (
+    let both = judged_power R F (R.value c.power-x.result) (R.value c.primitive.result) e c.primitive.ensures.means c.power-x.ensures.means f k Both (c.in-Both.ensures f c.level.ensures) in (
       search rules,
       (
         within,
@@ -65,8 +59,7 @@ visit-requires-in-Both g t c κs within =
     let k = c.args.k in
     let e = c.args.e.0 in
     let found = c.visit.new.found in
-    let tried = tried_power R F (R.value c.power-x.result) (R.value c.primitive.result) e c.primitive.ensures.means c.power-x.ensures.means in
-    let both : Judged R F f k (zeta_power R F e) Both = subst (λ b. Judged R F f k b Both) tried (c.in-Both.ensures f c.level.ensures) in
+    let both = judged_power R F (R.value c.power-x.result) (R.value c.primitive.result) e c.primitive.ensures.means c.power-x.ensures.means f k Both (c.in-Both.ensures f c.level.ensures) in
     let w = c.visit.ensures.visited in
     let ready = both_second R F g.met.F.Ring.lawful c.field_laws-order.ensures.laws f k e c.args.found.now.trials found.trials _ _ both.0 c.requires.ready (both.1, both.2) w in (
       search rules,
@@ -86,9 +79,8 @@ returns-in-Nothing-clause-visited g t c =
     let f = polynomial R F c.args.self.now.f.codes.now in
     let k = c.args.k in
     let e = c.args.e.0 in
-    let tried = tried_power R F (R.value c.power-x.result) (R.value c.primitive.result) e c.primitive.ensures.means c.power-x.ensures.means in
     visited_nothing R F g.met.F.Ring.lawful c.field_laws-order.ensures.laws f k e c.args.found.now.trials _ c.requires.ready
-    (λ z. c.in-Nothing.ensures f c.level.ensures (ap (λ b. eval R.ring (tower R.ring f k) b) tried ∙ z))
+    (judged_power R F (R.value c.power-x.result) (R.value c.primitive.result) e c.primitive.ensures.means c.power-x.ensures.means f k Nothing (c.in-Nothing.ensures f c.level.ensures))
 
 pub returns-in-Root-clause-visited : goal.returns-in-Root-clause-visited
 returns-in-Root-clause-visited g t c =
@@ -100,8 +92,7 @@ returns-in-Root-clause-visited g t c =
     let code = c.in-Root.code.0 in
     let found = c.args.found.now in
     let new = c.insert.new.self in
-    let tried = tried_power R F (R.value c.power-x.result) (R.value c.primitive.result) e c.primitive.ensures.means c.power-x.ensures.means in
-    let alone : Alone R F f k (zeta_power R F e) code = subst (λ b. Alone R F f k b code) tried (c.in-Root.ensures f c.level.ensures) in
+    let alone = judged_power R F (R.value c.power-x.result) (R.value c.primitive.result) e c.primitive.ensures.means c.power-x.ensures.means f k (Root c.in-Root.code) (c.in-Root.ensures f c.level.ensures) in
     let xs = codes (take found.count found.list.now) in
     subst (λ u. Visited R F f k e xs (codes (take new.count new.list.now)) found.trials u) (sym c.insert.ensures.tried)
     (subst (λ ys. Visited R F f k e xs ys found.trials (found.trials + 1)) (sym c.insert.ensures.placed)
@@ -114,8 +105,7 @@ returns-in-Both-clause-visited g t c =
     let f = polynomial R F c.args.self.now.f.codes.now in
     let k = c.args.k in
     let e = c.args.e.0 in
-    let tried = tried_power R F (R.value c.power-x.result) (R.value c.primitive.result) e c.primitive.ensures.means c.power-x.ensures.means in
-    let both : Judged R F f k (zeta_power R F e) Both = subst (λ b. Judged R F f k b Both) tried (c.in-Both.ensures f c.level.ensures) in
+    let both = judged_power R F (R.value c.power-x.result) (R.value c.primitive.result) e c.primitive.ensures.means c.power-x.ensures.means f k Both (c.in-Both.ensures f c.level.ensures) in
     let first = c.visit.new.found in
     let last = c.visit-in-Both.new.found in
     both_visited R F g.met.F.Ring.lawful c.field_laws-order.ensures.laws f k e c.args.found.now.trials first.trials last.trials _ _ _

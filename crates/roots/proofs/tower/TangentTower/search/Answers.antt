@@ -1,10 +1,10 @@
-use Rattle.std.proofs.Common.{◌≡◌, ◌+◌, ◌-◌, ◌*◌, ◌/◌, ◌^◌, ◌<◌, [], ◌∷◌, length, take, drop, sym, refl, ap, ◌∙◌, ap₂, arith}
+use Rattle.std.proofs.Common.{◌≡◌, ◌+◌, ◌-◌, ◌*◌, ◌^◌, ◌<◌, [], ◌∷◌, length, take, drop, sym, refl, ap, ◌∙◌, arith}
 use lib.ListN.{length-map}
 use Rattle.algebra.specs.Polynomials.{coefficient}
 use Rattle.roots.specs.Lists.{put}
 use Rattle.roots.specs.Codes.{element, polynomial}
 use Rattle.roots.specs.Roots.{codes}
-use Rattle.roots.proofs.Coding.{good_from, top_nonzero, zero_root, no_zero_root, step_is, trials_fit}
+use Rattle.roots.proofs.Coding.{good_from, top_nonzero, zero_root, no_zero_root, exponent_is, trials_fit}
 use Rattle.roots.proofs.Visiting.{drop_on}
 use Rattle.roots.proofs.Searching.{searched_none, searched_zero, searched_ready, searched_more, searched_all, ready_moved, visited_moved, searched_moved}
 use Rattle.roots.proofs.tower.TangentTower.search.Goals as goal
@@ -52,8 +52,7 @@ visit-requires-clause-ready g c =
     let good = good_from F.order cs c.args.self.now.f.good in
     let long : length f ≡ length cs = length-map cs (λ x. element R F x.0) in
     let inside : i < F.odd = omega (arith, c.odd_part-odd.ensures.answer) in
-    let e : i * ((c.field_laws-order.result - 1) / c.odd_part-odd.result) ≡ i * 2 ^ F.levels =
-    ap₂ (λ q m. i * ((q - 1) / m)) c.field_laws-order.ensures.answer c.odd_part-odd.ensures.answer ∙ ap (λ n. i * n) (step_is R F L I cs good) in
+    let e = exponent_is R F L I cs good c.field_laws-order.result c.odd_part-odd.result i c.field_laws-order.ensures.answer c.odd_part-odd.ensures.answer in
     ready_moved R F L I f c.height-top.result F.levels _ (i * 2 ^ F.levels) (codes (take found.count found.list.now)) c.height-top.ensures e
     (searched_ready R F L I f i found.trials (codes (take found.count found.list.now)) c.loop-i.invariant.0 inside (omega (arith, good.some))
     (λ z. top_nonzero R F L I cs good (ap (λ n. coefficient R.ring f (n - 1)) (sym long) ∙ z)))
@@ -77,8 +76,7 @@ loop-i-preserved g c =
     let i = c.loop-i.i in
     let good = good_from F.order cs c.args.self.now.f.good in
     let inside : i < F.odd = omega (arith, c.odd_part-odd.ensures.answer) in
-    let e : i * ((c.field_laws-order.result - 1) / c.odd_part-odd.result) ≡ i * 2 ^ F.levels =
-    ap₂ (λ q m. i * ((q - 1) / m)) c.field_laws-order.ensures.answer c.odd_part-odd.ensures.answer ∙ ap (λ n. i * n) (step_is R F L I cs good) in
+    let e = exponent_is R F L I cs good c.field_laws-order.result c.odd_part-odd.result i c.field_laws-order.ensures.answer c.odd_part-odd.ensures.answer in
     let w = c.visit.ensures in
     let found = c.loop-i.found in
     let new = c.visit.new.found in (
@@ -90,8 +88,8 @@ loop-i-preserved g c =
       w.same_list ∙ c.loop-i.invariant.3,
     )
 
-pub returns-clause-roots : goal.returns-clause-roots
-returns-clause-roots g c =
+pub returns : goal.returns
+returns g c =
     let R = g.F.Ring in
     let F = g.F.Field in
     let L = g.met.F.Ring.lawful in
@@ -99,15 +97,13 @@ returns-clause-roots g c =
     let f = polynomial R F c.args.self.now.f.codes.now in
     let done : c.loop-i.i ≡ F.odd = omega (arith, c.odd_part-odd.ensures.answer) in
     let found = c.loop-i.found in
-    (searched_all R F L I f found.trials _ (searched_moved R F L I f c.loop-i.i F.odd _ found.trials _ (codes (take found.count found.list.now)) done refl refl c.loop-i.invariant.0)).0
-
-pub returns-clause-tried : goal.returns-clause-tried
-returns-clause-tried g c =
-    let R = g.F.Ring in
-    let F = g.F.Field in
-    let L = g.met.F.Ring.lawful in
-    let I = c.field_laws-order.ensures.laws in
-    let f = polynomial R F c.args.self.now.f.codes.now in
-    let done : c.loop-i.i ≡ F.odd = omega (arith, c.odd_part-odd.ensures.answer) in
-    let found = c.loop-i.found in
-    (searched_all R F L I f found.trials _ (searched_moved R F L I f c.loop-i.i F.odd _ found.trials _ (codes (take found.count found.list.now)) done refl refl c.loop-i.invariant.0)).1
+    let inv = c.loop-i.invariant in
+    let all = searched_all R F L I f found.trials _ (searched_moved R F L I f c.loop-i.i F.odd _ found.trials _ (codes (take found.count found.list.now)) done refl refl inv.0) in
+    record {
+      same_list = inv.3;
+      long = inv.2;
+      ascending = inv.0.ascending;
+      roots = all.0;
+      tried = all.1;
+      rest = inv.1;
+    }
