@@ -19,3 +19,8 @@ good_item bs place a b n s number g =
 
 pub after : {x : ℕ × List ℕ} (a b : ℕ × List ℕ) → a ≡ accepted → x ≡ b → x ≡ or_else a b
 after a b p q = q ∙ sym (passed a b p)
+
+-- an answer after a good item
+pub after_good : (s number : ℕ) {bs : List ℕ} {place a b n : ℕ} (x rest : ℕ × List ℕ) → Good bs place a b n → x ≡ rest
+    → x ≡ or_else (item (length bs) s place 4 number (within a b (number_at bs place))) rest
+after_good s number x rest g e = after _ _ (good_item _ _ _ _ _ s number g) e

@@ -1,24 +1,15 @@
 -- The answer to an item, and the first of several.
-use Rattle.std.proofs.Common.{◌≡◌, ℕ, zero, suc, ◌+◌, ◌<◌, ◌≤◌, Bool, true, false, ◌&&◌, leb, ◌⊎◌, List, [], ◌∷◌, ◌++◌, length, drop, sym, refl, ap, ◌∙◌, subst, inl, inr, eq-or-lt_of_le, add-one, arith, le-ltb, lt-ltb, le-leb}
-use borrow.Author.Tests.{lt-leb}
+use Rattle.std.proofs.Common.{◌≡◌, ℕ, zero, suc, ◌+◌, ◌<◌, ◌≤◌, Bool, true, false, ◌⊎◌, List, [], ◌∷◌, length, sym, refl, ap, ◌∙◌, subst, inl, inr, eq-or-lt_of_le, arith, le-ltb, lt-ltb, le-leb}
 use Rattle.std.proofs.lemmas.Bool.Decides.{nat_tests}
 use Rattle.algebra.specs.Refusals.{accepted, or_else}
 use Rattle.sheet.specs.declared.fault.NumberFault.{NumberFault}
 use Rattle.sheet.specs.declared.fault.NumberFault.TheVariants.{Cut, Count, Value}
 use Rattle.sheet.specs.Faults.{item_answer}
-use Rattle.sheet.specs.Sheets.{item, first, within, number_at, word, Good}
+use Rattle.sheet.specs.Sheets.{item, first, within, Good}
 use Rattle.sheet.specs.Sections.{Refused}
 
 pub within_true : (a b n : ℕ) → a ≤ n → n ≤ b → within a b n ≡ true
 within_true a b n l h = rw (le-leb a n l, le-leb n b h)
-
-no_and : (t : Bool) → (t && false) ≡ false
-no_and true = refl
-no_and false = refl
-
-pub within_false : (a b m n : ℕ) → m ≡ n → (m < a) ⊎ ((a ≤ m) × (b < m)) → within a b n ≡ false
-within_false a b m n e (inl l) = rw (← e, lt-leb a m l)
-within_false a b m n e (inr h) = rw (← e, lt-leb m b h.1) (no_and (leb a m))
 
 module _ (long section place size number : ℕ) (good : Bool) where
   pub item-cut : long < place + size → (12, section ∷ place ∷ []) ≡ item long section place size number good
@@ -44,14 +35,6 @@ stays s (Value p) b = refl
 
 pub stops : (s : ℕ) (f : NumberFault) (a b : ℕ × List ℕ) → item_answer s f ≡ a → item_answer s f ≡ or_else a b
 stops s f a b e = sym (stays s f b) ∙ ap (λ x. or_else x b) e
-
-pub first_none : (f : ℕ → ℕ × List ℕ) → first f 0 ≡ accepted
-unfolding first
-first_none f = refl
-
-pub first_more : (f : ℕ → ℕ × List ℕ) (k : ℕ) → first f k ≡ accepted → f k ≡ accepted → first f (k + 1) ≡ accepted
-unfolding first
-first_more f k p q = rw (add-one, p) q
 
 pub below : (k n : ℕ) → k < suc n → (k ≡ n) ⊎ (k < n)
 below k n h = let l : k ≤ n = omega arith in eq-or-lt_of_le l
@@ -84,24 +67,6 @@ module _ (s size number : ℕ) (good : Bool) (bs : List ℕ) (p : ℕ) (told : N
   -- an item that was refused is so answered
   pub refused : Refused told bs p size good e → item_answer s e ≡ item (length bs) s p size number good
   refused h = why_refused h.why
-
--- the same, where the bytes, the place and the range are known by equations
-module _ (bs ds : List ℕ) (p r a c b d : ℕ) (bytes : ds ≡ bs) (place : r ≡ p) (least : c ≡ a) (most : d ≡ b) where
-  pub good_there : (n : ℕ) → Good ds r c d n → Good bs p a b n
-  good_there n g = record {
-    is = g.is ∙ ap (λ x. number_at x r) bytes ∙ ap (number_at bs) place;
-    whole = subst (λ x. p + 4 ≤ length x) bytes (omega (arith, g.whole));
-    cut = sym (ap (λ x. drop x bs) place) ∙ sym (ap (drop r) bytes) ∙ g.cut ∙ ap (λ x. word n ++ drop (r + 4) x) bytes ∙ ap (λ x. word n ++ drop (x + 4) bs) place;
-    low = omega (arith, g.low);
-    high = omega (arith, g.high);
-  }
-
-  pub refused_there : (s number : ℕ) (told : NumberFault → Type 0) (e : NumberFault) → (told e → item_answer s e ≡ (number, s ∷ r ∷ []))
-      → Refused told ds r 4 (within c d (number_at ds r)) e → item_answer s e ≡ item (length bs) s p 4 number (within a b (number_at bs p))
-  refused_there s number told e is h =
-      refused s 4 number _ ds r told e is h
-      ∙ ap (λ x. item (length x) s r 4 number (within c d (number_at x r))) bytes ∙ ap (λ x. item (length bs) s x 4 number (within c d (number_at bs x))) place
-      ∙ ap (λ x. item (length bs) s p 4 number (within x d (number_at bs p))) least ∙ ap (λ x. item (length bs) s p 4 number (within a x (number_at bs p))) most
 
 -- a number that had to be a is a
 pub exactly : (bs : List ℕ) (p a n : ℕ) → Good bs p a a n → Good bs p a a a

@@ -1,8 +1,8 @@
 -- Bytes that are put one after another.
-use Rattle.std.proofs.Common.{◌≡◌, ℕ, ◌+◌, ◌<◌, ◌≤◌, List, [], ◌∷◌, ◌++◌, length, get_or, take, drop, sym, refl, ap, ◌∙◌, subst, add-zero, arith, below_more}
+use Rattle.std.proofs.Common.{◌≡◌, ℕ, ◌+◌, ◌<◌, ◌≤◌, List, [], ◌∷◌, ◌++◌, length, get_or, take, drop, sym, refl, ap, ◌∙◌, subst, arith, below_more}
 use borrow.Rule.Slice.PartMut.{put_mid}
 use Rattle.std.specs.List.{flat_map}
-use Rattle.std.proofs.lemmas.List.{append_assoc, append-nil, drop-drop, drop_at, take_at, get_or_append_left, get_or_push, length-append, length_push, length-take-le, length-drop, flat_map_more}
+use Rattle.std.proofs.lemmas.List.{append_assoc, drop-drop, drop_at, take_at, get_or_append_left, get_or_push, length-append, length_push, length-take-le, length-drop, flat_map_more}
 use Rattle.tally.specs.Contents.{Contents, count}
 use Rattle.sheet.specs.Sheets.{word, sums_bytes}
 use Rattle.sheet.specs.Sections.{Puts, SumsPut}
@@ -21,9 +21,6 @@ put_middle ys before zs p k e ek h =
       front = ap (take (p + length ys)) is ∙ take_at done rest (p + length ys) at;
       back = ap (drop (p + length ys)) is ∙ drop_at done rest (p + length ys) at;
     }
-
-pub put_none : (before : List ℕ) (p : ℕ) → Puts [] before p before p
-put_none before p = record { place = sym (add-zero p); long = refl; front = sym (append-nil (take p before)); back = refl }
 
 pub put_both : (xs ys a b c : List ℕ) (p q r : ℕ) → Puts xs a p b q → Puts ys b q c r → Puts (xs ++ ys) a p c r
 put_both xs ys a b c p q r one two = record {
@@ -44,15 +41,6 @@ pub record SumsSoFar {V : Type 0} (q : ℕ) (at : ℕ → V) (c : Contents V) (b
   pub puts : Puts (flat_map word codes) before p after r
 
 module _ {V : Type 0} (q : ℕ) (at : ℕ → V) (c : Contents V) (before : List ℕ) (p : ℕ) where
-  pub no_sums : SumsSoFar q at c before p before p 0
-  no_sums = record {
-    codes = [];
-    long = refl;
-    small = λ j h. let none : ⊥ = omega arith in absurd none;
-    means = λ j h. let none : ⊥ = omega arith in absurd none;
-    puts = put_none before p;
-  }
-
   pub more_sums : (out out' : List ℕ) (r s k x : ℕ) → x < q → at x ≡ c.sum k → Puts (word x) out r out' s → SumsSoFar q at c before p out r k → SumsSoFar q at c before p out' s (k + 1)
   more_sums out out' r s k x small means put so =
       let xs = so.codes in

@@ -1,5 +1,5 @@
 -- What writing answers, and what stands in the bytes after it.
-use Rattle.std.proofs.Common.{◌≡◌, ℕ, ◌+◌, ◌*◌, ◌<◌, ◌≤◌, List, [], ◌∷◌, ◌++◌, length, get_or, take, sym, refl, ap, subst, ◌∙◌, arith, le-ltb, lt-ltb}
+use Rattle.std.proofs.Common.{◌≡◌, ℕ, ◌+◌, ◌*◌, ◌<◌, ◌≤◌, List, [], ◌∷◌, ◌++◌, length, get_or, take, sym, refl, ap, subst, ◌∙◌, arith, le-ltb}
 use Rattle.std.specs.List.{flat_map}
 use Rattle.std.proofs.lemmas.List.{length-append, ext_get_or}
 use Rattle.algebra.specs.Refusals.{accepted, answer, or_else}
@@ -35,9 +35,6 @@ pub refusal_refuses : (e : Refusal) → answer e ≡ accepted → ⊥
 refusal_refuses e h =
     let z : ◌≡◌ {A = ℕ} 1 0 = ap (λ x. x.0) (sym (refusal_stops e accepted (1, []) h) ∙ h) in
     omega arith
-
-pub writing-short : (n long : ℕ) (name : List ℕ) → accepted ≡ naming name → long < sheet_long n (length name) → (6, sheet_long n (length name) ∷ []) ≡ writing n long name
-writing-short n long name p h = sym (passed (naming name) _ (sym p) ∙ rw (lt-ltb long (sheet_long n (length name)) h))
 
 pub writing-all : (n long : ℕ) (name : List ℕ) → accepted ≡ naming name → sheet_long n (length name) ≤ long → accepted ≡ writing n long name
 writing-all n long name p h = sym (passed (naming name) _ (sym p) ∙ rw (le-ltb long (sheet_long n (length name)) h))

@@ -50,7 +50,7 @@ impl<'a> Reader<'a> {
         ensures good { IfOk result (Good self.old.bytes.now self.old.place (range_inclusive_start range) (range_inclusive_end range)) }
         ensures refused { IfErr result (Refused (F.post fault self.old.place) self.old.bytes.now self.old.place 4 (within (range_inclusive_start range) (range_inclusive_end range) (number_at self.old.bytes.now self.old.place))) }
     {
-        let four = self.item()?;
+        let four = self.item::<4>()?;
         let n = u32::from_be_bytes(four);
         if !range.contains(&n) {
             return Err(fault(self.place));

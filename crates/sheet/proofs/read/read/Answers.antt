@@ -1,12 +1,11 @@
-use Rattle.std.proofs.Common.{◌≡◌, ◌+◌, ◌*◌, drop, Ok, sym, ap, ◌∙◌, subst, refl, arith}
+use Rattle.std.proofs.Common.{◌≡◌, ◌+◌, ◌*◌, ◌≤◌, Ok, sym, ap, ◌∙◌, subst, refl, arith}
 use Rattle.std.proofs.lemmas.List.{length-take-le}
 use Rattle.algebra.specs.Refusals.{accepted}
 use Rattle.tally.specs.Access.{code_at}
 use Rattle.tally.specs.Bodies.{contents, element}
 use Rattle.sheet.specs.declared.fault.SheetFault.TheVariants.{Frame, Sums, Job}
-use Rattle.sheet.specs.Faults.{item_answer}
-use Rattle.sheet.specs.Sheets.{frame_items, sums_items, name_items, reading}
-use Rattle.sheet.specs.Sections.{FrameTold, SumsTold, NameTold}
+use Rattle.sheet.specs.Sheets.{sums_items, reading}
+use Rattle.sheet.specs.Sections.{SumsTold}
 use Rattle.sheet.specs.Reads.{Taken}
 use Rattle.sheet.proofs.Readings.{sheet_exits, reading_frame, reading_sums, reading_name, reading-all, taken_all}
 use Rattle.sheet.proofs.Laws.{refused_laws, both_laws}
@@ -18,8 +17,7 @@ returns-in_err-frame g c =
     let bs = c.args.bytes.now in
     let e = c.in_err-frame.field-0.0 in
     let r = c.from_residual.result in
-    let told : item_answer 1 e.0 ≡ frame_items q bs =
-    c.in_err-frame.ensures.answers ∙ ap (λ m. frame_items m c.new-reader.result.bytes.now) c.size-order.ensures.answer ∙ ap (frame_items q) c.new-reader.ensures.bytes in
+    let told = rw (c.size-order.ensures.answer, c.new-reader.ensures.bytes) at c.in_err-frame.ensures.answers in
     let answers = sheet_exits (Frame e) (reading q bs) r c.from_residual.ensures.1 (reading_frame q bs e.0 told) in
     let laws = refused_laws g.F.Ring.ring q (element g.F.Ring g.F.Field) bs (contents g.F.Ring c.args.tally.now) c.size-order.ensures.bounded (λ _. c.args.tally.now ≡ c.args.tally.now) (λ _. refl) r c.from_residual.ensures.0 answers in
     record { answers = answers; taken = laws.0; back = laws.1; logged = laws.2 }
@@ -35,11 +33,9 @@ returns-in_err-sums g c =
     let r = c.from_residual-in_err-sums.result in
     let is = c.size-order.ensures.answer in
     let begun = c.new-reader.ensures.bytes in
-    let head : FrameTold q bs f.width f.spare t =
-    subst (λ x. FrameTold q x f.width f.spare t) begun (subst (λ m. FrameTold m c.new-reader.result.bytes.now f.width f.spare t) is c.in_ok-frame.ensures.answers.1) in
-    let told : item_answer 2 e.0 ≡ sums_items q n bs =
-    c.in_err-sums.ensures.answers ∙ ap (λ m. sums_items c.size-order.result m c.frame.new.self.bytes.now) (length-take-le n _ (omega (arith, c.count.ensures, f.ok)))
-    ∙ ap (λ m. sums_items m n c.frame.new.self.bytes.now) is ∙ ap (sums_items q n) (c.frame.ensures.same ∙ begun) in
+    let head = rw (is, begun) at c.in_ok-frame.ensures.answers.1 in
+    let many = length-take-le n _ (omega (arith, c.count.ensures, f.ok)) in
+    let told = rw (is, c.frame.ensures.same, begun) at (c.in_err-sums.ensures.answers ∙ ap (λ m. sums_items c.size-order.result m c.frame.new.self.bytes.now) many) in
     let answers = sheet_exits (Sums e) (reading q bs) r c.from_residual-in_err-sums.ensures.1 (reading_sums q bs f.width f.spare t n head c.count.ensures e.0 told) in
     let laws = refused_laws g.F.Ring.ring q (element g.F.Ring g.F.Field) bs (contents g.F.Ring c.args.tally.now) c.size-order.ensures.bounded (λ _. c.args.tally.now ≡ c.args.tally.now) (λ _. refl) r c.from_residual-in_err-sums.ensures.0 answers in
     record { answers = answers; taken = laws.0; back = laws.1; logged = laws.2 }
@@ -56,15 +52,11 @@ returns-in_err-name g c =
     let r = c.from_residual-in_err-name.result in
     let is = c.size-order.ensures.answer in
     let begun = c.new-reader.ensures.bytes in
-    let head : FrameTold q bs f.width f.spare t =
-    subst (λ x. FrameTold q x f.width f.spare t) begun (subst (λ m. FrameTold m c.new-reader.result.bytes.now f.width f.spare t) is c.in_ok-frame.ensures.answers.1) in
+    let head = rw (is, begun) at c.in_ok-frame.ensures.answers.1 in
     let many = length-take-le n _ (omega (arith, c.count.ensures, f.ok)) in
-    let sums : SumsTold q n bs (code_at codes) =
-    subst (λ x. SumsTold q n x (code_at codes)) (c.frame.ensures.same ∙ begun) (subst (λ m. SumsTold m n c.frame.new.self.bytes.now (code_at codes)) is
-    (subst (λ m. SumsTold c.size-order.result m c.frame.new.self.bytes.now (code_at codes)) many c.in_ok-sums.ensures.answers.1)) in
+    let sums = rw (is, c.frame.ensures.same, begun) at (subst (λ m. SumsTold c.size-order.result m c.frame.new.self.bytes.now (code_at codes)) many c.in_ok-sums.ensures.answers.1) in
     let place : c.sums.new.self.place ≡ 24 + 4 * n = c.in_ok-sums.ensures.answers.0 ∙ ap (λ m. 24 + 4 * m) many in
-    let told : item_answer 3 e.0 ≡ name_items (24 + 4 * n) bs =
-    c.in_err-name.ensures.answers ∙ ap (λ p. name_items p c.sums.new.self.bytes.now) place ∙ ap (name_items (24 + 4 * n)) (c.sums.ensures.same ∙ c.frame.ensures.same ∙ begun) in
+    let told = rw (place, c.sums.ensures.same, c.frame.ensures.same, begun) at c.in_err-name.ensures.answers in
     let answers = sheet_exits (Job e) (reading q bs) r c.from_residual-in_err-name.ensures.1 (reading_name q bs f.width f.spare t n head c.count.ensures (code_at codes) sums e.0 told) in
     let laws = refused_laws g.F.Ring.ring q (element g.F.Ring g.F.Field) bs (contents g.F.Ring c.args.tally.now) c.size-order.ensures.bounded (λ _. c.args.tally.now ≡ c.args.tally.now) (λ _. refl) r c.from_residual-in_err-name.ensures.0 answers in
     record { answers = answers; taken = laws.0; back = laws.1; logged = laws.2 }
@@ -82,21 +74,17 @@ returns g c =
     let end = c.name.new.self.place in
     let k = contents g.F.Ring c.restore.new.self in
     let is = c.size-order.ensures.answer in
+    let some : 1 ≤ q = omega (arith, c.size-order.ensures.bounded) in
     let begun = c.new-reader.ensures.bytes in
-    let head : FrameTold q bs f.width f.spare t =
-    subst (λ x. FrameTold q x f.width f.spare t) begun (subst (λ m. FrameTold m c.new-reader.result.bytes.now f.width f.spare t) is c.in_ok-frame.ensures.answers.1) in
+    let head = rw (is, begun) at c.in_ok-frame.ensures.answers.1 in
     let many = length-take-le n _ (omega (arith, c.count.ensures, f.ok)) in
-    let framed = c.frame.ensures.same ∙ begun in
-    let sums : SumsTold q n bs (code_at codes) =
-    subst (λ x. SumsTold q n x (code_at codes)) framed (subst (λ m. SumsTold m n c.frame.new.self.bytes.now (code_at codes)) is
-    (subst (λ m. SumsTold c.size-order.result m c.frame.new.self.bytes.now (code_at codes)) many c.in_ok-sums.ensures.answers.1)) in
+    let sums = rw (is, c.frame.ensures.same, begun) at (subst (λ m. SumsTold c.size-order.result m c.frame.new.self.bytes.now (code_at codes)) many c.in_ok-sums.ensures.answers.1) in
     let place : c.sums.new.self.place ≡ 24 + 4 * n = c.in_ok-sums.ensures.answers.0 ∙ ap (λ m. 24 + 4 * m) many in
-    let names : NameTold (24 + 4 * n) bs name.now end =
-    subst (λ p. NameTold p bs name.now end) place (subst (λ x. NameTold c.sums.new.self.place x name.now end) (c.sums.ensures.same ∙ framed) c.in_ok-name.ensures.answers) in
-    let rest : c.rest.result.now ≡ drop end bs = c.rest.ensures ∙ ap (drop end) (c.name.ensures.same ∙ c.sums.ensures.same ∙ framed) in
+    let names = rw (place, c.sums.ensures.same, c.frame.ensures.same, begun) at c.in_ok-name.ensures.answers in
+    let rest = rw (c.name.ensures.same, c.sums.ensures.same, c.frame.ensures.same, begun) at c.rest.ensures in
     let answers : accepted ≡ reading q bs = reading-all q bs f.width f.spare t n head c.count.ensures (code_at codes) sums name.now end names in
     let taken : Taken q at bs name.now c.rest.result.now k =
-    subst (λ x. Taken q at bs name.now x k) (sym rest) (taken_all q bs f.width f.spare t n head c.count.ensures (code_at codes) sums name.now end names at k (omega (arith, c.size-order.ensures.bounded))
+    subst (λ x. Taken q at bs name.now x k) (sym rest) (taken_all q bs f.width f.spare t n head c.count.ensures (code_at codes) sums name.now end names at k some
     (ap (λ x. x.width) c.restore.ensures.framed) (ap (λ x. x.spare) c.restore.ensures.framed) c.restore.ensures.turned c.restore.ensures.sums) in
     let laws = both_laws g.F.Ring.ring q at bs k c.size-order.ensures.bounded (λ _. k ≡ k) (Ok (name, c.rest.result)) answers taken in
     record { answers = answers; taken = taken; back = laws.0; logged = laws.1 }

@@ -3,9 +3,8 @@ use Rattle.std.proofs.lemmas.Result.{err_from_is_err_and}
 use Rattle.algebra.specs.Refusals.{answer}
 use Rattle.tally.specs.Bodies.{contents, element}
 use Rattle.tally.specs.Contents.{count}
-use Rattle.sheet.specs.Sheets.{frame_bytes, naming}
+use Rattle.sheet.specs.Sheets.{naming}
 use Rattle.sheet.specs.Reads.{Written}
-use Rattle.sheet.specs.Sections.{Puts}
 use Rattle.sheet.proofs.Names.{name_good}
 use Rattle.sheet.proofs.Writes.{refusal_stops, refusal_refuses, frame_long, sums_long, sheet_end, writing-all, written_all, written_as, again}
 use Rattle.sheet.proofs.write.write.Goals as goal
@@ -29,13 +28,13 @@ returns-in_err-check_name g c =
 pub sums-requires : goal.sums-requires
 sums-requires g c =
     let f = c.args.tally.now.frame in
-    let total : c.count.result ≡ 2 * f.width + f.spare = c.count.ensures ∙ ap (λ x. 2 * x.width + x.spare) c.frame-frame.ensures in
+    let total : c.count.result ≡ 2 * f.width + f.spare = rw c.frame-frame.ensures at c.count.ensures in
     (search rules, omega (arith, frame_long c.field_laws-order.result c.frame-frame.result.width c.frame-frame.result.spare c.turnover.result, ap length c.new-writer.ensures.out))
 
 pub name-requires-clause-room : goal.name-requires-clause-room
 name-requires-clause-room g c =
     let f = c.args.tally.now.frame in
-    let total : c.count.result ≡ 2 * f.width + f.spare = c.count.ensures ∙ ap (λ x. 2 * x.width + x.spare) c.frame-frame.ensures in
+    let total : c.count.result ≡ 2 * f.width + f.spare = rw c.frame-frame.ensures at c.count.ensures in
     let sums = c.sums.ensures.puts in
     omega (arith, frame_long c.field_laws-order.result c.frame-frame.result.width c.frame-frame.result.spare c.turnover.result, sums_long sums.codes, sums.coded.coded.long, sums.puts.place, sums.puts.long, ap length c.new-writer.ensures.out)
 
@@ -46,21 +45,12 @@ returns g c =
     let k = contents g.F.Ring c.args.tally.now in
     let name = c.args.name.now in
     let out = c.args.out.now in
-    let f = c.args.tally.now.frame in
-    let new = c.new-writer.result in
     let framed = c.frame.new.self in
     let summed = c.sums.new.self in
     let done = c.name.new.self in
-    let bytes : frame_bytes c.field_laws-order.result c.frame-frame.result.width c.frame-frame.result.spare c.turnover.result ≡ frame_bytes q k.width k.spare k.turnover =
-    ap (λ x. frame_bytes x c.frame-frame.result.width c.frame-frame.result.spare c.turnover.result) c.field_laws-order.ensures.answer
-    ∙ ap (λ x. frame_bytes q x.width x.spare c.turnover.result) c.frame-frame.ensures ∙ ap (frame_bytes q f.width f.spare) c.turnover.ensures in
-    let begun : Puts (frame_bytes q k.width k.spare k.turnover) new.out.now new.place framed.out.now framed.place =
-    subst (λ ys. Puts ys new.out.now new.place framed.out.now framed.place) bytes c.frame.ensures.puts in
-    let frame : Puts (frame_bytes q k.width k.spare k.turnover) out 0 framed.out.now framed.place =
-    subst (λ p. Puts (frame_bytes q k.width k.spare k.turnover) out p framed.out.now framed.place) c.new-writer.ensures.place
-    (subst (λ x. Puts (frame_bytes q k.width k.spare k.turnover) x new.place framed.out.now framed.place) c.new-writer.ensures.out begun) in
+    let frame = rw (c.field_laws-order.ensures.answer, c.frame-frame.ensures, c.turnover.ensures, c.new-writer.ensures.out, c.new-writer.ensures.place) at c.frame.ensures.puts in
     let named = c.in_ok-check_name.ensures.named in
-    let total : c.count.result ≡ count k = c.count.ensures ∙ ap (λ x. 2 * x.width + x.spare) c.frame-frame.ensures in
+    let total : c.count.result ≡ count k = rw c.frame-frame.ensures at c.count.ensures in
     let n = 4 * (7 + c.count.result) + length name in
     let long : done.place ≡ n = sheet_end q at k name out framed.out.now summed.out.now done.out.now framed.place summed.place done.place frame c.sums.ensures.puts c.name.ensures.puts ∙ omega arith in
     let written : Written q at k name out done.out.now n = subst (Written q at k name out done.out.now) long
