@@ -1,4 +1,4 @@
-// Answers questions, one a line, each over one of the two fields. A line that is no question is answered `error`.
+//! Answers questions, one a line, each over one of the two fields. A line that is no question is answered `error`.
 #![tactic(auto)]
 
 mod lifted;

@@ -1,5 +1,5 @@
-// Times the Graeffe transform of 257 coefficients over the field of 469762049 elements. Standard output has the sum of the
-// codes of the last transform, the same on every run, and standard error the times.
+//! Times the Graeffe transform of 257 coefficients over the field of 469762049 elements. Standard output has the sum of the
+//! codes of the last transform, the same on every run, and standard error the times.
 #![tactic(auto)]
 
 use algebra::code::Code;

@@ -1,5 +1,5 @@
-// Reads polynomials, one a line, as decimal coefficient codes with the constant first,
-// and prints the Graeffe transform of each over the field of 17 and over that of 469762049.
+//! Reads polynomials, one a line, as decimal coefficient codes with the constant first,
+//! and prints the Graeffe transform of each over the field of 17 and over that of 469762049.
 #![tactic(auto)]
 
 use algebra::field::Field;

@@ -1,5 +1,5 @@
-// Times the list of roots of a polynomial of degree 255 with distinct roots, over the field of 469762049 elements. Standard
-// output has what was found, the same on every run, and standard error the time.
+//! Times the list of roots of a polynomial of degree 255 with distinct roots, over the field of 469762049 elements. Standard
+//! output has what was found, the same on every run, and standard error the time.
 #![tactic(auto)]
 
 mod polynomial;

@@ -1,5 +1,5 @@
-// Reads polynomials, one a line, as decimal coefficient codes with the constant first, and prints for each, over the field of
-// 17 and over that of 469762049, its roots with their multiplicities, whether it splits, and how many elements were tried.
+//! Reads polynomials, one a line, as decimal coefficient codes with the constant first, and prints for each, over the field of
+//! 17 and over that of 469762049, its roots with their multiplicities, whether it splits, and how many elements were tried.
 #![tactic(auto)]
 
 mod told;

@@ -36,7 +36,7 @@ pub(crate) fn rise<F: Field>(f: Coefficients<'_, F>, k: u32, work: &mut [Dual<F>
     }
 }
 
-// Writes g_k + ε t_k, the level k of the tangent tower of the polynomial of these codes, to the front of the work space.
+/// Writes g_k + ε t_k, the level k of the tangent tower of the polynomial of these codes, to the front of the work space.
 pub fn tangent_level<F: Field>(codes: &[Code], k: u32, work: &mut [Dual<F>]) -> Result<(), Refusal>
     ensures answers { reply result ≡ levelling F.Field.order F.Field.levels codes.now k (length work.old) }
     ensures leaves { MatchResult result (λ _. (duals F.Ring (take (length codes.now) work.new) ≡ tower (dual F.Ring.ring) (tangent F.Ring.ring (polynomial F.Ring F.Field.own codes.now)) k) × ((j : ℕ) (d : Dual F) → j < length codes.now → Held F.Ring (slice_index_or work.new j d))) (λ _. work.new ≡ work.old) }

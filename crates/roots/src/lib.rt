@@ -1,4 +1,4 @@
-// Division by x - a, the tower of Graeffe transforms, the lift and the list of roots.
+//! Division by x - a, the tower of Graeffe transforms, the lift and the list of roots.
 #![tactic(auto)]
 
 mod build;

@@ -12,7 +12,7 @@ use algebra::dual::Dual;
 use algebra::field::{Field, field_laws};
 use algebra::refusal::Refusal;
 
-// The root of f whose power 2^k is the element of `code`, where that is other than zero and a simple root of the level k.
+/// The root of f whose power 2^k is the element of `code`, where that is other than zero and a simple root of the level k.
 pub fn lift<F: Field>(
     f: &[Code],
     k: u32,

@@ -12,7 +12,7 @@ use algebra::dual::Dual;
 use algebra::field::{Field, field_laws};
 use algebra::refusal::Refusal;
 
-// How many roots there are, whether their multiplicities add up to the degree, and how many elements were tried.
+/// How many roots there are, whether their multiplicities add up to the degree, and how many elements were tried.
 #[derive(Clone, Copy, PartialEq, Eq, Debug)]
 pub struct RootList {
     pub count: usize,
@@ -20,7 +20,7 @@ pub struct RootList {
     pub trials: u64,
 }
 
-// Fills the front of the list with all roots of the polynomial of these codes, ascending by code, each with its multiplicity.
+/// Fills the front of the list with all roots of the polynomial of these codes, ascending by code, each with its multiplicity.
 pub fn roots<F: Field>(
     f: &[Code],
     list: &mut [RootRecord],

@@ -1,6 +1,6 @@
 use algebra::code::Code;
 
-// A root by its code, and its multiplicity.
+/// A root by its code, and its multiplicity.
 #[derive(Clone, Copy, PartialEq, Eq, Debug)]
 pub struct RootRecord {
     pub code: Code,

@@ -2,7 +2,7 @@ ghost use Rattle.std.specs.Prelude.{◌≡◌, [], ◌∷◌};
 ghost use Rattle.sheet.specs.declared.fault.SheetFault.TheVariants.{Frame, Sums, Job};
 ghost use Rattle.sheet.specs.Faults.{item_answer, fault_answer};
 
-// Why an item of a sheet was refused, with the place of its first byte. An item is a count, a number or one byte of the name.
+/// Why an item of a sheet was refused, with the place of its first byte. An item is a count, a number or one byte of the name.
 #[derive(Clone, Copy, PartialEq, Eq, Debug)]
 pub enum NumberFault {
     // the bytes end before the item does
@@ -14,7 +14,7 @@ pub enum NumberFault {
 }
 
 impl NumberFault {
-    // The fault's number, the section and the place.
+    /// The fault's number, the section and the place.
     pub fn told(self, section: u32) -> (u32, u32, usize)
         ensures { item_answer section self ≡ (result.0, result.1 ∷ result.2 ∷ []) }
     {
@@ -26,7 +26,7 @@ impl NumberFault {
     }
 }
 
-// A fault in a section of a sheet.
+/// A fault in a section of a sheet.
 #[derive(Clone, Copy, PartialEq, Eq, Debug)]
 pub struct SectionFault<const SECTION: u32>(pub NumberFault);
 
@@ -45,7 +45,7 @@ impl<const SECTION: u32> From<NumberFault> for SectionFault<SECTION> {
 }
 
 impl<const SECTION: u32> SectionFault<SECTION> {
-    // The fault's number, its section and its place.
+    /// The fault's number, its section and its place.
     pub fn told(self) -> (u32, u32, usize)
         ensures { item_answer SECTION self.entry.0 ≡ (result.0, result.1 ∷ result.2 ∷ []) }
     {
@@ -53,7 +53,7 @@ impl<const SECTION: u32> SectionFault<SECTION> {
     }
 }
 
-// The first fault of a sheet, with its section.
+/// The first fault of a sheet, with its section.
 #[derive(Clone, Copy, PartialEq, Eq, Debug)]
 pub enum SheetFault {
     Frame(FrameFault),
@@ -86,7 +86,7 @@ impl From<JobFault> for SheetFault {
 }
 
 impl SheetFault {
-    // The fault's number, its section and its place.
+    /// The fault's number, its section and its place.
     pub fn told(self) -> (u32, u32, usize)
         ensures { fault_answer self ≡ (result.0, result.1 ∷ result.2 ∷ []) }
     {

@@ -1,5 +1,5 @@
-// A closed tally and a job name as bytes, written and read.
-// A sheet has three sections, each after its count; counts and numbers take 4 bytes, the most significant first.
+//! A closed tally and a job name as bytes, written and read.
+//! A sheet has three sections, each after its count; counts and numbers take 4 bytes, the most significant first.
 #![tactic(auto)]
 
 mod check_name;

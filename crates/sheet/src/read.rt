@@ -6,13 +6,13 @@ ghost use Rattle.sheet.specs.Reads.{Taken, ReadsBack, ReadsLog};
 
 use crate::fault::SheetFault;
 use crate::reader::Reader;
-use crate::sums_section::MOST_SUMS;
 use algebra::code::Code;
 use algebra::field::Field;
 use tally::closed::Closed;
+use tally::sums::MOST;
 
-// Fills the tally from the sheet at the start of the bytes, and answers the job name and the bytes after the sheet.
-// The first fault from the left refuses it, and leaves the tally as it was.
+/// Fills the tally from the sheet at the start of the bytes, and answers the job name and the bytes after the sheet.
+/// The first fault from the left refuses it, and leaves the tally as it was.
 pub fn read<'a, F: Field>(
     tally: &mut Closed<F>,
     bytes: &'a [u8],
@@ -26,7 +26,7 @@ pub fn read<'a, F: Field>(
     let mut reader = Reader::new(bytes);
     let (frame, turnover) = reader.frame(order)?;
     // the library allocates nothing, so there is room for the codes of any frame
-    let mut room = [Code(0); MOST_SUMS];
+    let mut room = [Code(0); MOST];
     let codes = &mut room[..frame.count()];
     reader.sums(order, codes)?;
     let name = reader.name()?;

@@ -11,7 +11,7 @@ use algebra::field::{Field, field_laws};
 use algebra::refusal::Refusal;
 use tally::closed::Closed;
 
-// Writes the sheet of a tally and a job name to the start of `out`, and answers its length.
+/// Writes the sheet of a tally and a job name to the start of `out`, and answers its length.
 pub fn write<F: Field>(tally: &Closed<F>, name: &[u8], out: &mut [u8]) -> Result<usize, Refusal>
     ensures answers { reply result ≡ writing (count (contents F.Ring tally.now)) (length out.old) name.now }
     ensures written { MatchResult result (Written F.Field.order (element F.Ring F.Field.own) (contents F.Ring tally.now) name.now out.old out.new) (λ _. out.new ≡ out.old) }

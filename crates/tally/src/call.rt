@@ -3,7 +3,7 @@ ghost use Rattle.tally.specs.Contents.{signed};
 
 use algebra::field::Field;
 
-// The two calls that move a quantity of a code.
+/// The two calls that move a quantity of a code.
 #[derive(Clone, Copy, PartialEq, Eq, Debug)]
 pub enum Call {
     Enter,

@@ -13,7 +13,7 @@ use algebra::refusal::Refusal;
 use std::array;
 use std::marker::Model;
 
-// A tally that can be compared and written, as often as wanted.
+/// A tally that can be compared and written, as often as wanted.
 #[derive(Drop)]
 pub struct Closed<F> {
     pub(crate) body: Sums<F>,
@@ -28,7 +28,7 @@ impl<F> Model for Closed<F> {
 }
 
 impl<F: Field> Closed<F> {
-    // Whether all sums of two tallies of one frame agree. The turnover is not compared.
+    /// Whether all sums of two tallies of one frame agree. The turnover is not compared.
     pub fn compare(&self, other: &Closed<F>) -> Result<bool, Refusal>
         ensures answers { reply result ≡ comparing (contents F.Ring self.now) (contents F.Ring other.now) }
         ensures compares { IfOk result (λ b. (b ≡ true) ↔ Agree (contents F.Ring self.now) (contents F.Ring other.now)) }
@@ -42,7 +42,7 @@ impl<F: Field> Closed<F> {
         Ok(pairs.all(|(x, y)| x.same(*y)))
     }
 
-    // A tally of a frame in which nothing was moved.
+    /// A tally of a frame in which nothing was moved.
     pub fn blank(frame: Frame) -> Closed<F>
         ensures { Fresh F.Ring frame result }
     {
@@ -63,7 +63,7 @@ impl<F: Field> Closed<F> {
         self.body.turnover
     }
 
-    // The code of the sum k; code 0 where the frame has no such sum.
+    /// The code of the sum k; code 0 where the frame has no such sum.
     pub fn sum_code(&self, k: usize) -> Code
         ensures below { result.0 < F.Field.order }
         ensures means { k < count (contents F.Ring self.now) → element F.Ring F.Field.own result.0 ≡ (contents F.Ring self.now).sum k }
@@ -76,7 +76,7 @@ impl<F: Field> Closed<F> {
             .map_or(Code(0), |sum| sum.to_code())
     }
 
-    // Replaces all that the tally holds: the sum k becomes the element of the code at k, and zero past the end of the codes.
+    /// Replaces all that the tally holds: the sum k becomes the element of the code at k, and zero past the end of the codes.
     pub fn restore(&mut self, frame: Frame, turnover: u32, codes: &[Code])
         ensures framed { self.new.frame ≡ frame }
         ensures turned { self.new.turnover ≡ turnover }

@@ -4,8 +4,8 @@ ghost use Rattle.tally.specs.Contents.{framing};
 
 use algebra::refusal::Refusal;
 
-// The width w and the spare s of a tally, which keeps 2 w + s sums: w is the number of codes that a difference can name,
-// and s the number of sums more by which it is checked.
+/// The width w and the spare s of a tally, which keeps 2 w + s sums: w is the number of codes that a difference can name,
+/// and s the number of sums more by which it is checked.
 #[derive(Clone, Copy, PartialEq, Eq, Debug)]
 pub struct Frame {
     pub width: u32,
@@ -14,7 +14,7 @@ pub struct Frame {
 }
 
 impl Frame {
-    // A frame of width 1 to 32 and spare 0 to 32.
+    /// A frame of width 1 to 32 and spare 0 to 32.
     pub fn new(width: u32, spare: u32) -> Result<Frame, Refusal>
         ensures answers { reply result ≡ framing width spare }
         ensures made { IfOk result (λ f. (f.width ≡ width) × (f.spare ≡ spare)) }
@@ -37,7 +37,7 @@ impl Frame {
         self.spare
     }
 
-    // The number of sums.
+    /// The number of sums.
     pub fn count(self) -> usize
         ensures { result ≡ 2 * self.width + self.spare }
     {

@@ -1,4 +1,4 @@
-// Tallies of part codes, kept as power sums in a finite field: frames, open and closed tallies, their logs, and comparing.
+//! Tallies of part codes, kept as power sums in a finite field: frames, open and closed tallies, their logs, and comparing.
 #![tactic(auto)]
 
 pub mod call;

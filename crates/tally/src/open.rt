@@ -14,7 +14,7 @@ use algebra::field::Field;
 use algebra::refusal::Refusal;
 use std::marker::Model;
 
-// A tally that codes are entered into and withdrawn from.
+/// A tally that codes are entered into and withdrawn from.
 #[derive(Drop)]
 pub struct Open<F> {
     pub(crate) body: Sums<F>,
@@ -38,7 +38,7 @@ impl<F: Field> Open<F> {
         }
     }
 
-    // Enters a quantity of a code.
+    /// Enters a quantity of a code.
     pub fn enter(&mut self, code: Code, quantity: u32) -> Result<(), Refusal>
         ensures answers { reply result ≡ answering F.Field.order self.old.turnover code.0 quantity }
         ensures moves { MatchResult result (λ _. Moves F.Ring F.Field.own Enter code.0 quantity self.old self.new) (λ _. self.new ≡ self.old) }
@@ -48,7 +48,7 @@ impl<F: Field> Open<F> {
         self.body.call(Call::Enter, code, quantity)
     }
 
-    // Withdraws a quantity of a code, also where none was entered.
+    /// Withdraws a quantity of a code, also where none was entered.
     pub fn withdraw(&mut self, code: Code, quantity: u32) -> Result<(), Refusal>
         ensures answers { reply result ≡ answering F.Field.order self.old.turnover code.0 quantity }
         ensures moves { MatchResult result (λ _. Moves F.Ring F.Field.own Withdraw code.0 quantity self.old self.new) (λ _. self.new ≡ self.old) }
@@ -58,7 +58,7 @@ impl<F: Field> Open<F> {
         self.body.call(Call::Withdraw, code, quantity)
     }
 
-    // Ends the entering. The closed tally has the same contents, and so the same log.
+    /// Ends the entering. The closed tally has the same contents, and so the same log.
     pub fn close(self) -> Closed<F>
         ensures same { result ≡ self }
         ensures logged { (log : Log) → Keeps F.Ring F.Field.own log self → Keeps F.Ring F.Field.own log result }

@@ -11,11 +11,11 @@ use algebra::code::Code;
 use algebra::field::{Field, whole};
 use algebra::refusal::Refusal;
 
-// The most sums that a frame has.
+/// The most sums that a frame has.
 pub const MOST: usize = 96;
 
-// What a tally holds: its sums, of which those of its frame count, its frame, and its turnover.
-// The array has room for the sums of any frame, because tallies allocate nothing.
+/// What a tally holds: its sums, of which those of its frame count, its frame, and its turnover.
+/// The array has room for the sums of any frame, because tallies allocate nothing.
 #[derive(Drop)]
 pub struct Sums<F> {
     pub sums: [F; MOST],

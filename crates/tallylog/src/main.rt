@@ -1,5 +1,5 @@
-// Reads calls on a tally over the field of 469762049, one a line, such as `in 447 14` and `out 397 2`; prints each line that is
-// denied with the reason, and at the end the turnover and the codes of the sums.
+//! Reads calls on a tally over the field of 469762049, one a line, such as `in 447 14` and `out 397 2`; prints each line that is
+//! denied with the reason, and at the end the turnover and the codes of the sums.
 #![tactic(auto)]
 
 mod denial;
@@ -39,10 +39,7 @@ fn contents(heap: Global, tally: &Closed<Residue>) -> Result<String, AllocError>
 
 fn main(rt: HostRuntime) -> io::Result<()> {
     let heap = rt.alloc();
-    let Ok(frame) = Frame::new(2, 0) else {
-        return Ok(());
-    };
-    let mut tally = Open::<Residue>::open(frame);
+    let mut tally = Open::<Residue>::open(Frame::new(2, 0).unwrap());
     for line in BufReader::new(heap, rt.stdin())?.lines(heap) {
         let line = line?;
         let words = text::read::words(heap, line.as_str())?;

@@ -1,4 +1,4 @@
-// Numbers in lines of text, elements of a field written by their codes, and bytes in hexadecimal digits.
+//! Numbers in lines of text, elements of a field written by their codes, and bytes in hexadecimal digits.
 #![tactic(auto)]
 
 pub mod read;

@@ -10,7 +10,7 @@ use algebra::dual::Dual;
 use algebra::field::Field;
 use std::alloc::{AllocError, Global};
 
-// The number that a word of decimal digits stands for, if it has at most 32 bits.
+/// The number that a word of decimal digits stands for, if it has at most 32 bits.
 pub fn number(word: &str) -> Option<u32>
     ensures { result ≡ number_of word.now }
 {
@@ -22,7 +22,7 @@ pub fn number(word: &str) -> Option<u32>
     }
 }
 
-// The words of a line, parted by blanks.
+/// The words of a line, parted by blanks.
 pub fn words<'a>(heap: Global, line: &'a str) -> Result<Vec<&'a str>, AllocError>
     ensures { IfOk result (λ v. Words line.now (map (λ w. w.now) v.items)) }
 {
@@ -49,21 +49,21 @@ fn each<T: Drop, P: Fn(&str) -> Option<T>>(
     Ok(Some(all))
 }
 
-// The numbers that the words stand for, or none where one stands for no number.
+/// The numbers that the words stand for, or none where one stands for no number.
 pub fn numbers(heap: Global, words: &[&str]) -> Result<Option<Vec<u32>>, AllocError>
     ensures { IfOk result (λ o. MatchOption o (all_of (λ w. number_of w.now) words.now ≡ None) (λ v. all_of (λ w. number_of w.now) words.now ≡ Some v.items)) }
 {
     each(heap, words, number)
 }
 
-// The numbers as codes, whether or not they are codes of a field.
+/// The numbers as codes, whether or not they are codes of a field.
 pub fn codes(heap: Global, numbers: &[u32]) -> Result<Vec<Code>, AllocError>
     ensures { IfOk result (λ v. map (λ c. c.0) v.items ≡ numbers.now) }
 {
     numbers.iter().map(|n| Code(*n)).collect(heap)
 }
 
-// The elements of a row of codes.
+/// The elements of a row of codes.
 pub fn elements<F: Field + Drop>(heap: Global, codes: &[u32]) -> Result<Vec<F>, AllocError>
     ensures { IfOk result (λ v. Named F.Ring.value F.Ring.canonical (λ c. F.Ring.value (F.Field.at c)) codes.now v.items) }
 {
@@ -85,7 +85,7 @@ fn dual<F: Field>(word: &str) -> Option<Dual<F>>
     })
 }
 
-// The dual numbers that the words stand for, or none where one stands for none.
+/// The dual numbers that the words stand for, or none where one stands for none.
 pub fn pairs<F: Field + Drop>(
     heap: Global,
     words: &[&str],
@@ -95,7 +95,7 @@ pub fn pairs<F: Field + Drop>(
     each(heap, words, |word| dual::<F>(word))
 }
 
-// A length: the number that the word stands for, or what is needed where the word is a hyphen.
+/// A length: the number that the word stands for, or what is needed where the word is a hyphen.
 pub fn length(word: &str, needed: usize) -> Option<usize>
     ensures { result ≡ length_of word.now needed }
 {

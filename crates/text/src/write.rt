@@ -12,7 +12,7 @@ use std::alloc::{AllocError, Global};
 use std::fmt;
 use std::fmt::{Display, Write};
 
-// The items, a blank before each.
+/// The items, a blank before each.
 pub fn row<T: Display>(heap: Global, items: &[T]) -> Result<String, AllocError>
     ensures { IfOk result (λ s. (show : T → List ℕ) → All (λ x. T.output x ≡ Some (show x)) items.now → string_bytes s ≡ flat_map (λ x. 32 ∷ show x) items.now) }
 {
@@ -23,7 +23,7 @@ pub fn row<T: Display>(heap: Global, items: &[T]) -> Result<String, AllocError>
     Ok(text)
 }
 
-// The codes of the elements, a blank before each.
+/// The codes of the elements, a blank before each.
 pub fn codes<F: Field>(heap: Global, elements: &[F]) -> Result<String, AllocError>
     ensures { IfOk result (λ s. Shown F.Ring.value (λ c. F.Ring.value (F.Field.at c)) (λ c. c < F.Field.order) code_text elements.now (string_bytes s)) }
 {
@@ -46,7 +46,7 @@ impl Display for Pair {
     }
 }
 
-// The codes of both parts of the dual numbers, with a colon between, a blank before each.
+/// The codes of both parts of the dual numbers, with a colon between, a blank before each.
 pub fn pairs<F: Field>(heap: Global, duals: &[Dual<F>]) -> Result<String, AllocError>
     ensures { IfOk result (λ s. Shown (both_mean F.Ring.value) (both_named (λ c. F.Ring.value (F.Field.at c))) (λ p. (p.0 < F.Field.order) × (p.1 < F.Field.order)) pair_text duals.now (string_bytes s)) }
 {
@@ -60,7 +60,7 @@ pub fn pairs<F: Field>(heap: Global, duals: &[Dual<F>]) -> Result<String, AllocE
     row(heap, codes.as_slice())
 }
 
-// A refusal by its number and values.
+/// A refusal by its number and values.
 pub fn refused(heap: Global, why: Refusal) -> Result<String, AllocError>
     ensures { IfOk result (λ s. string_bytes s ≡ refusal_text (answer why)) }
 {
@@ -70,7 +70,7 @@ pub fn refused(heap: Global, why: Refusal) -> Result<String, AllocError>
     }
 }
 
-// The bytes in hexadecimal digits, two a byte, and a hyphen where there is none.
+/// The bytes in hexadecimal digits, two a byte, and a hyphen where there is none.
 pub fn hexadecimal(heap: Global, bytes: &[u8]) -> Result<String, AllocError>
     ensures { IfOk result (λ s. string_bytes s ≡ bytes_text bytes.now) }
 {
