@@ -1,9 +1,9 @@
 -- The rules of the tables of the field of 17 elements, each by one computed test, and the laws that follow.
-use Rattle.std.specs.Prelude.{◌≡◌, ℕ, zero, suc, ◌+◌, ◌-◌, ◌*◌, ◌%◌, ◌<◌, ◌≤◌, true, cond, ltb, ◌≢◌, ◌==◌, nat_eq, nat_lt, slice_index, Option, Some, None, refl}
+use Rattle.std.specs.Prelude.{◌≡◌, ℕ, zero, suc, ◌+◌, ◌-◌, ◌*◌, ◌%◌, ◌<◌, ◌≤◌, Bool, true, false, cond, not, ltb, ◌≢◌, ◌==◌, nat_eq, nat_lt, slice_index, Option, Some, None, refl}
 use Rattle.std.specs.Option.{option_map, option_zip}
 use Rattle.std.proofs.Common.{sym, ap, ap₂, subst, ◌∙◌, inl, inr, mod-lt, mod-eq_of_lt, arith, lit<}
 use Rattle.std.proofs.Math.Nat.{mod-mod, add-mod}
-use Rattle.std.proofs.lemmas.Bool.{cases_lt, eqb-true, ltb-true, lt-ltb, le-ltb, ne_eqb, cond-true, cond-false, cond_both}
+use Rattle.std.proofs.lemmas.Bool.{not-true, cases_lt, eqb-true, ltb-true, lt-ltb, le-ltb, ne_eqb, cond-true, cond-false, cond_both}
 use Rattle.algebra.specs.Rings.{Lawful, power}
 use Rattle.algebra.specs.RingsLemmas.{nought-times, times-nought, minus-nought}
 use Rattle.algebra.specs.declared.code.Exponent.{Exponent}
@@ -114,11 +114,30 @@ pub code_means : (c : ℕ) (x : Seventeen) → c < 17 → meaning (element c) �
 code_means c x h e = sym (code_element c h) ∙ ap (λ (r : Residue 17). r.code) e
 
 -- the sum, by codes below 17
-pub sum-means : (a b : ℕ) → a < 17 → b < 17 → meaning (element ((a + b) % 17)) ≡ modulo_17.plus (meaning (element a)) (meaning (element b))
-sum-means a b ha hb =
+pub code_sum : (a b : ℕ) → a < 17 → b < 17 → meaning (element ((a + b) % 17)) ≡ modulo_17.plus (meaning (element a)) (meaning (element b))
+code_sum a b ha hb =
     rest_same 17 positive _ _ (
     ap (λ (n : ℕ). n % 17) (element_code ((a + b) % 17) (mod-lt (a + b) positive)) ∙ mod-mod (a + b) 17
     ∙ sym (ap₂ (λ m n. (m + n) % 17) (code_element a ha) (code_element b hb)))
+
+-- the sum of what two elements mean
+pub sum-means : (x y : Seventeen) → meaning (element ((coding x + coding y) % 17)) ≡ modulo_17.plus (meaning x) (meaning y)
+sum-means x y =
+    rest_same 17 positive _ _ (
+    ap (λ (n : ℕ). n % 17) (element_code ((coding x + coding y) % 17) (mod-lt (coding x + coding y) positive)) ∙ mod-mod (coding x + coding y) 17
+    ∙ sym (ap₂ (λ m n. (m + n) % 17) (meaning_code x) (meaning_code y)))
+
+abbrev agrees : Bool → Bool → Bool
+agrees true t = t
+agrees false t = not t
+
+agree : (s t : Bool) → agrees s t ≡ true → s ≡ t
+agree true t e = sym e
+agree false t e = sym (not-true t e)
+
+-- power numbers have one rest exactly where the powers are the same
+pub same_powers : (a b : Exponent) → (a.0 % 16 == b.0 % 16) ≡ modulo_17.alike (meaning (held (Some a))) (meaning (held (Some b)))
+same_powers a b = agree _ _ (pairs_below (λ i j. agrees (i == j) (at i % 17 == at j % 17)) 16 16 refl (a.0 % 16) (b.0 % 16) (under a.0) (under b.0))
 
 -- the product, the negative and the inverse, by power numbers
 
