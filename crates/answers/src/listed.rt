@@ -27,6 +27,7 @@ pub fn listed<F: Field + Clone + Drop>(heap: Global, words: &[&str]) -> Result<S
     let mut list = vec![in heap; empty; room]?;
     let mut work = vec![in heap; Dual::<F>::zero(); long]?;
     let all = roots(f.as_slice(), list.as_mut_slice(), work.as_mut_slice())?;
+    list.truncate(all.count);
     Ok(told(heap, all, list.as_slice())?)
 }
 
@@ -34,7 +35,7 @@ pub fn listed<F: Field + Clone + Drop>(heap: Global, words: &[&str]) -> Result<S
 fn told(heap: Global, all: RootList, list: &[RootRecord]) -> Result<String, AllocError> {
     let splits = if all.splits { "yes" } else { "no" };
     let mut text = format!(in heap; "ok {} {splits} {}", all.count, all.trials)?;
-    for record in list.iter().take(all.count) {
+    for record in list {
         write!(text, " {}:{}", record.code.0, record.multiplicity)?;
     }
     Ok(text)

@@ -3,44 +3,38 @@ use algebra::code::Code;
 use algebra::field::Field;
 use algebra::refusal::Refusal;
 use std::alloc::{AllocError, Global};
+use tally::call::Call;
 use tally::closed::Closed;
 use tally::frame::Frame;
 use tally::open::Open;
 
-// Which way a call moves its quantity.
+// A call on a tally, with its code and quantity.
 #[derive(Clone, Copy)]
-enum Move {
-    In,
-    Out,
-}
-
-// A call on a tally.
-#[derive(Clone, Copy)]
-struct Call {
-    moves: Move,
+struct Asked {
+    call: Call,
     code: Code,
     quantity: u32,
 }
 
-impl Call {
+impl Asked {
     // The call of a word such as +447*14 or -397*2.
-    fn of(word: &str) -> Option<Call> {
-        let (moves, rest) = match word.strip_prefix('+') {
-            Some(rest) => (Move::In, rest),
-            None => (Move::Out, word.strip_prefix('-')?),
+    fn of(word: &str) -> Option<Asked> {
+        let (call, rest) = match word.strip_prefix('+') {
+            Some(rest) => (Call::Enter, rest),
+            None => (Call::Withdraw, word.strip_prefix('-')?),
         };
         let (code, quantity) = rest.split_once('*')?;
-        Some(Call {
-            moves,
+        Some(Asked {
+            call,
             code: Code(text::read::number(code)?),
             quantity: text::read::number(quantity)?,
         })
     }
 
     fn make<F: Field>(self, tally: &mut Open<F>) -> Result<(), Refusal> {
-        match self.moves {
-            Move::In => tally.enter(self.code, self.quantity),
-            Move::Out => tally.withdraw(self.code, self.quantity),
+        match self.call {
+            Call::Enter => tally.enter(self.code, self.quantity),
+            Call::Withdraw => tally.withdraw(self.code, self.quantity),
         }
     }
 }
@@ -55,16 +49,16 @@ fn short(heap: Global, answer: Result<(), Refusal>) -> Result<String, AllocError
 }
 
 // Makes the calls on the tally, and gives their answers with commas between, or a hyphen where there is no call.
-fn run<F: Field>(heap: Global, tally: &mut Open<F>, calls: &[Call]) -> Result<String, AllocError> {
+fn run<F: Field>(heap: Global, tally: &mut Open<F>, calls: &[Asked]) -> Result<String, AllocError> {
     if calls.is_empty() {
         return String::from_str(heap, "-");
     }
     let mut row = String::new(heap);
-    for call in calls {
+    for asked in calls {
         if !row.is_empty() {
             row.push_str(",")?;
         }
-        row.push_str(short(heap, call.make(tally))?.as_str())?;
+        row.push_str(short(heap, asked.make(tally))?.as_str())?;
     }
     Ok(row)
 }
@@ -84,7 +78,7 @@ pub fn log<F: Field>(heap: Global, words: &[&str]) -> Result<String, NoAnswer> {
     };
     let width = text::read::number(width).ok_or(NoAnswer::NoQuestion)?;
     let spare = text::read::number(spare).ok_or(NoAnswer::NoQuestion)?;
-    let calls: Option<Vec<Call>> = calls.iter().map(|word| Call::of(word)).collect(heap)?;
+    let calls: Option<Vec<Asked>> = calls.iter().map(|word| Asked::of(word)).collect(heap)?;
     let calls = calls.ok_or(NoAnswer::NoQuestion)?;
     let mut tally = Open::<F>::open(Frame::new(width, spare)?);
     let answers = run(heap, &mut tally, calls.as_slice())?;

@@ -39,12 +39,6 @@ fn transforms<F: Field>(f: &mut [F], out: &mut [F], rounds: u32) -> Result<(), R
     Ok(())
 }
 
-fn sum_of_codes<F: Field>(row: &[F]) -> u64 {
-    row.iter()
-        .map(|x| u64::from(x.to_code().0))
-        .fold(0, u64::saturating_add)
-}
-
 fn main(rt: HostRuntime) -> io::Result<()> {
     let mut f = filled::<Residue>(rt.alloc(), SIZE)?;
     let mut out = filled::<Residue>(rt.alloc(), SIZE)?;
@@ -54,7 +48,10 @@ fn main(rt: HostRuntime) -> io::Result<()> {
     if done.is_err() {
         return eprintln!(rt; "a transform was refused");
     }
-    let sum = sum_of_codes(f.as_slice());
+    let sum = f
+        .iter()
+        .map(|x| u64::from(x.to_code().0))
+        .fold(0, u64::saturating_add);
     println!(rt; "sum of the codes: {sum}")?;
     let micros = spent / 1000;
     let each = spent / PRODUCTS;

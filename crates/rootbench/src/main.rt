@@ -33,12 +33,6 @@ fn lists<F: Field>(
     roots(f, list, work)
 }
 
-fn sum_of_codes(list: &[RootRecord]) -> u64 {
-    list.iter()
-        .map(|record| u64::from(record.code.0))
-        .fold(0, u64::saturating_add)
-}
-
 fn main(rt: HostRuntime) -> io::Result<()> {
     let heap = rt.alloc();
     let f = polynomial::codes::<Residue>(heap, DEGREE)?;
@@ -59,7 +53,10 @@ fn main(rt: HostRuntime) -> io::Result<()> {
     let Ok(all) = done else {
         return eprintln!(rt; "the list was refused");
     };
-    let sum = sum_of_codes(list.as_slice());
+    let sum = list
+        .iter()
+        .map(|record| u64::from(record.code.0))
+        .fold(0, u64::saturating_add);
     println!(rt; "{} roots, sum of their codes: {sum}", all.count)?;
     let splits = if all.splits { "yes" } else { "no" };
     println!(rt; "splits: {splits}, trials: {}", all.trials)?;

@@ -26,7 +26,10 @@ fn over<F: Field + Clone + Drop>(heap: Global, f: &[Code]) -> Result<String, All
     let mut list = vec![in heap; empty; f.len()]?;
     let mut work = vec![in heap; Dual::<F>::zero(); levels.saturating_mul(f.len())]?;
     match roots(f, list.as_mut_slice(), work.as_mut_slice()) {
-        Ok(all) => told::roots(heap, all, list.as_slice()),
+        Ok(all) => {
+            list.truncate(all.count);
+            told::roots(heap, all, list.as_slice())
+        }
         Err(why) => format!(in heap; "{why}"),
     }
 }

@@ -13,12 +13,12 @@ fn times(heap: Global, multiplicity: u32) -> Result<String, AllocError> {
 }
 
 // The roots with their multiplicities.
-fn records(heap: Global, list: &[RootRecord], count: usize) -> Result<String, AllocError> {
-    if count == 0 {
+fn records(heap: Global, list: &[RootRecord]) -> Result<String, AllocError> {
+    if list.is_empty() {
         return String::from_str(heap, "no roots");
     }
-    let mut text = String::from_str(heap, if count == 1 { "root" } else { "roots" })?;
-    for (i, record) in list.iter().take(count).enumerate() {
+    let mut text = String::from_str(heap, if list.len() == 1 { "root" } else { "roots" })?;
+    for (i, record) in list.iter().enumerate() {
         let comma = if i == 0 { "" } else { "," };
         let often = times(heap, record.multiplicity)?;
         write!(text, "{comma} {} {often}", record.code.0)?;
@@ -28,7 +28,7 @@ fn records(heap: Global, list: &[RootRecord], count: usize) -> Result<String, Al
 
 // The roots, whether they split the polynomial, and how many elements were tried.
 pub fn roots(heap: Global, all: RootList, list: &[RootRecord]) -> Result<String, AllocError> {
-    let found = records(heap, list, all.count)?;
+    let found = records(heap, list)?;
     let splits = if all.splits {
         "splits"
     } else {

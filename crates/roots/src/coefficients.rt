@@ -18,7 +18,7 @@ pub(crate) struct Coefficients<'a, F: Field> {
 
 impl<'a, F: Field> Copy for Coefficients<'a, F> {}
 
-// By hand, since a struct with a ghost field derives neither.
+// By hand: a derive over the ghost field of a generic struct is refused (derive-over-ghost-field).
 impl<'a, F: Field> Clone for Coefficients<'a, F> {
     ghost is_clone = { λ f g. f.codes ≡ g.codes };
 
