@@ -23,32 +23,38 @@ pub trait Field: Ring {
     // the primitive element
     ghost zeta: { Self };
 
+    /// The number of elements.
     fn size() -> u32
         ensures answer { result ≡ order }
         ensures bounded { Bounded order };
 
+    /// The odd part of the order less one.
     fn odd_part() -> u32
         ensures answer { result ≡ odd }
         ensures tower { Tower order odd levels };
 
+    /// How often the order less one can be halved.
     fn height() -> u32
         ensures { result ≡ levels };
 
-    /// the element of a code; zero for a code that is none
+    /// The element of a code; zero for a code that is none.
     fn from_code(code: Code) -> Self
         ensures means { Self.Ring.value result ≡ Self.Ring.value (at code.0) }
         ensures held { Self.Ring.canonical result }
         ensures coded { Coded Self.Ring.ring order (λ c. Self.Ring.value (at c)) };
 
+    /// The code of what an element means.
     fn to_code(self) -> Code
         ensures means { Self.Ring.value (at result.0) ≡ Self.Ring.value self }
         ensures below { result.0 < order };
 
+    /// The inverse; zero for zero.
     fn inverse(self) -> Self
         ensures means { Inverse Self.Ring.ring (Self.Ring.value self) (Self.Ring.value result) }
         ensures held { Self.Ring.canonical result }
         ensures invertible { Invertible Self.Ring.ring };
 
+    /// The primitive element, whose powers are all elements but zero.
     fn primitive() -> Self
         ensures means { Self.Ring.value result ≡ Self.Ring.value zeta }
         ensures held { Self.Ring.canonical result }

@@ -28,12 +28,13 @@ pub enum Refusal {
     Top,
     /// a level of the tower that is 0 or above the field's; the level
     Level(u32),
-    /// a job name that is too long, or has a byte that is none; the place, 40 where it is too long
+    /// a job name that is too long, or has a byte that is none; the place; 40, the first that no name reaches, where it is too long
     Job(usize),
 }
 
 impl Refusal {
     /// The refusal's number and the value that it carries, if any.
+    // Numbers, since others know refusals by them; the code hands on the enum.
     pub fn told(self) -> (u32, Option<u64>)
         ensures { answer self ≡ (result.0, option_to_list result.1) }
     {

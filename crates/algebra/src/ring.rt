@@ -32,7 +32,7 @@ pub trait Ring: Copy {
         ensures means { value result ≡ ring.minus (value self) }
         ensures held { canonical result };
 
-    /// whether the two mean the same; a derived == would compare how they are held
+    /// Whether the two mean the same; a derived == would compare how they are held.
     fn same(self, other: Self) -> bool
         ensures { result ≡ ring.alike (value self) (value other) };
 
