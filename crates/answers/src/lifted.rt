@@ -1,4 +1,5 @@
 use crate::no_answer::NoAnswer;
+use crate::question;
 use algebra::code::Code;
 use algebra::dual::Dual;
 use algebra::field::Field;
@@ -12,13 +13,13 @@ pub fn lifted<F: Field + Clone + Drop>(heap: Global, words: &[&str]) -> Result<S
     let [work, level, code, codes @ ..] = words else {
         return Err(NoAnswer::NoQuestion);
     };
-    let level = text::read::number(level).ok_or(NoAnswer::NoQuestion)?;
-    let code = text::read::number(code).ok_or(NoAnswer::NoQuestion)?;
-    let numbers = text::read::numbers(heap, codes)?.ok_or(NoAnswer::NoQuestion)?;
-    let long = text::read::length(work, 2 * numbers.len()).ok_or(NoAnswer::NoQuestion)?;
-    let f = text::read::codes(heap, numbers.as_slice())?;
+    let level = question::number(level)?;
+    let code = question::number(code)?;
+    let numbers = question::numbers(heap, codes)?;
+    let long = question::length(work, 2 * numbers.len())?;
+    let f = text::read::codes(heap, &numbers)?;
     let mut work = vec![in heap; Dual::<F>::zero(); long]?;
-    match lift(f.as_slice(), level, Code(code), work.as_mut_slice())? {
+    match lift(&f, level, Code(code), &mut work)? {
         Some(root) => Ok(format!(in heap; "ok {}", root.0)?),
         None => Ok(String::from_str(heap, "ok none")?),
     }

@@ -1,4 +1,5 @@
 use crate::no_answer::NoAnswer;
+use crate::question;
 use algebra::code::Code;
 use algebra::dual::Dual;
 use algebra::field::Field;
@@ -13,22 +14,20 @@ pub fn listed<F: Field + Clone + Drop>(heap: Global, words: &[&str]) -> Result<S
     let [list, work, codes @ ..] = words else {
         return Err(NoAnswer::NoQuestion);
     };
-    let numbers = text::read::numbers(heap, codes)?.ok_or(NoAnswer::NoQuestion)?;
-    let f = text::read::codes(heap, numbers.as_slice())?;
-    let room = text::read::length(list, f.len().saturating_sub(1)).ok_or(NoAnswer::NoQuestion)?;
+    let numbers = question::numbers(heap, codes)?;
+    let f = text::read::codes(heap, &numbers)?;
+    let room = question::length(list, f.len().saturating_sub(1))?;
     let levels = F::height() as usize + 1;
-    let long = text::read::length(work, levels.saturating_mul(f.len())).ok_or(
-        NoAnswer::NoQuestion,
-    )?;
+    let long = question::length(work, levels.saturating_mul(f.len()))?;
     let empty = RootRecord {
         code: Code(0),
         multiplicity: 0,
     };
     let mut list = vec![in heap; empty; room]?;
     let mut work = vec![in heap; Dual::<F>::zero(); long]?;
-    let all = roots(f.as_slice(), list.as_mut_slice(), work.as_mut_slice())?;
+    let all = roots(&f, &mut list, &mut work)?;
     list.truncate(all.count);
-    Ok(told(heap, all, list.as_slice())?)
+    Ok(told(heap, all, &list)?)
 }
 
 // The number of roots, whether they split f, the trials, and each root with its multiplicity.

@@ -4,6 +4,7 @@
 mod lifted;
 mod listed;
 mod no_answer;
+mod question;
 mod sheets;
 mod tallies;
 mod tangent;

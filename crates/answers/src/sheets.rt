@@ -1,5 +1,5 @@
 use crate::no_answer::NoAnswer;
-use crate::tallies;
+use crate::{question, tallies};
 use algebra::field::Field;
 use std::alloc::Global;
 use tally::closed::Closed;
@@ -15,7 +15,7 @@ fn bytes(heap: Global, word: &str) -> Result<Vec<u8>, NoAnswer> {
         return Err(NoAnswer::NoQuestion);
     }
     let mut all = vec![in heap; 0u8; word.len() / 2]?;
-    hex::decode_to_slice(word, all.as_mut_slice()).map_err(|_| NoAnswer::NoQuestion)?;
+    hex::decode_to_slice(word, &mut all).map_err(|_| NoAnswer::NoQuestion)?;
     Ok(all)
 }
 
@@ -25,19 +25,17 @@ pub fn write<F: Field>(heap: Global, words: &[&str]) -> Result<String, NoAnswer>
         return Err(NoAnswer::NoQuestion);
     };
     let name = bytes(heap, name)?;
-    let numbers = text::read::numbers(heap, numbers)?.ok_or(NoAnswer::NoQuestion)?;
+    let numbers = question::numbers(heap, numbers)?;
     let [width, spare, turnover, sums @ ..] = numbers.as_slice() else {
         return Err(NoAnswer::NoQuestion);
     };
     // A word that is no length is no question, even where the frame is refused.
-    let _ = text::read::length(out, 0).ok_or(NoAnswer::NoQuestion)?;
+    question::length(out, 0)?;
     let tally = tallies::held::<F>(heap, *width, *spare, *turnover, sums)?;
     let needed = 28 + 4 * tally.frame().count();
-    let long = text::read::length(out, needed.saturating_add(name.len())).ok_or(
-        NoAnswer::NoQuestion,
-    )?;
+    let long = question::length(out, needed.saturating_add(name.len()))?;
     let mut out = vec![in heap; 0u8; long]?;
-    let n = sheet::write::write(&tally, name.as_slice(), out.as_mut_slice())?;
+    let n = sheet::write::write(&tally, &name, &mut out)?;
     let sheet = text::write::hexadecimal(heap, out.as_slice().split_at(n).0)?;
     Ok(format!(in heap; "ok {sheet}")?)
 }
@@ -49,7 +47,7 @@ pub fn read<F: Field>(heap: Global, words: &[&str]) -> Result<String, NoAnswer> 
     };
     let all = bytes(heap, word)?;
     let mut tally = Closed::<F>::blank(Frame::new(1, 0)?);
-    let (name, rest) = sheet::read::read(&mut tally, all.as_slice())?;
+    let (name, rest) = sheet::read::read(&mut tally, &all)?;
     let name = text::write::hexadecimal(heap, name)?;
     let sums = tallies::sums(heap, &tally)?;
     let frame = tally.frame();

@@ -1,4 +1,5 @@
 use crate::no_answer::NoAnswer;
+use crate::question;
 use algebra::code::Code;
 use algebra::field::Field;
 use algebra::refusal::Refusal;
@@ -68,7 +69,7 @@ pub fn sums<F: Field>(heap: Global, tally: &Closed<F>) -> Result<String, AllocEr
     let codes: Vec<u32> = (0..tally.frame().count())
         .map(|k| tally.sum_code(k).0)
         .collect(heap)?;
-    text::write::row(heap, codes.as_slice())
+    text::write::row(heap, &codes)
 }
 
 // The answers to the calls on a tally of the frame in the first two words, then its turnover and its sums.
@@ -76,12 +77,12 @@ pub fn log<F: Field>(heap: Global, words: &[&str]) -> Result<String, NoAnswer> {
     let [width, spare, calls @ ..] = words else {
         return Err(NoAnswer::NoQuestion);
     };
-    let width = text::read::number(width).ok_or(NoAnswer::NoQuestion)?;
-    let spare = text::read::number(spare).ok_or(NoAnswer::NoQuestion)?;
+    let width = question::number(width)?;
+    let spare = question::number(spare)?;
     let calls: Option<Vec<Asked>> = calls.iter().map(|word| Asked::of(word)).collect(heap)?;
     let calls = calls.ok_or(NoAnswer::NoQuestion)?;
     let mut tally = Open::<F>::open(Frame::new(width, spare)?);
-    let answers = run(heap, &mut tally, calls.as_slice())?;
+    let answers = run(heap, &mut tally, &calls)?;
     let tally = tally.close();
     let turnover = tally.turnover();
     let sums = sums(heap, &tally)?;
@@ -106,7 +107,7 @@ pub fn held<F: Field>(
     }
     let codes = text::read::codes(heap, sums)?;
     let mut tally = Closed::<F>::blank(frame);
-    tally.restore(frame, turnover, codes.as_slice());
+    tally.restore(frame, turnover, &codes);
     Ok(tally)
 }
 
@@ -124,10 +125,10 @@ pub fn compare<F: Field>(heap: Global, words: &[&str]) -> Result<String, NoAnswe
     let (Some(left), Some(right)) = (parts.next(), parts.next()) else {
         return Err(NoAnswer::NoQuestion);
     };
-    let left = text::read::numbers(heap, left)?.ok_or(NoAnswer::NoQuestion)?;
-    let right = text::read::numbers(heap, right)?.ok_or(NoAnswer::NoQuestion)?;
-    let left = restored::<F>(heap, left.as_slice())?;
-    let right = restored::<F>(heap, right.as_slice())?;
+    let left = question::numbers(heap, left)?;
+    let right = question::numbers(heap, right)?;
+    let left = restored::<F>(heap, &left)?;
+    let right = restored::<F>(heap, &right)?;
     let equal = if left.compare(&right)? {
         "ok equal"
     } else {

@@ -1,4 +1,5 @@
 use crate::no_answer::NoAnswer;
+use crate::question;
 use algebra::dual::Dual;
 use algebra::field::Field;
 use algebra::refusal::Refusal;
@@ -11,11 +12,11 @@ pub fn tangent<F: Field + Clone + Drop>(heap: Global, words: &[&str]) -> Result<
     let [level, codes @ ..] = words else {
         return Err(NoAnswer::NoQuestion);
     };
-    let level = text::read::number(level).ok_or(NoAnswer::NoQuestion)?;
-    let numbers = text::read::numbers(heap, codes)?.ok_or(NoAnswer::NoQuestion)?;
-    let f = text::read::codes(heap, numbers.as_slice())?;
+    let level = question::number(level)?;
+    let numbers = question::numbers(heap, codes)?;
+    let f = text::read::codes(heap, &numbers)?;
     let mut work = vec![in heap; Dual::<F>::zero(); 2 * f.len()]?;
-    match tangent_level(f.as_slice(), level, work.as_mut_slice()) {
+    match tangent_level(&f, level, &mut work) {
         Ok(()) => Ok(format!(in heap; "ok{}", text::write::pairs(heap, &work[0..f.len()])?)?),
         Err(Refusal::Level(_)) => Err(NoAnswer::NoQuestion),
         Err(why) => Err(NoAnswer::Refused(why)),

@@ -1,4 +1,5 @@
 use crate::no_answer::NoAnswer;
+use crate::question;
 use algebra::field::Field;
 use algebra::graeffe::graeffe;
 use algebra::ring::Ring;
@@ -13,9 +14,9 @@ fn transformed<R: Ring + Clone + Drop, W: Fn(Global, &[R]) -> Result<String, All
 ) -> Result<String, NoAnswer>
     requires { W.IsAlwaysCallable write }
 {
-    let long = text::read::length(out, f.len()).ok_or(NoAnswer::NoQuestion)?;
+    let long = question::length(out, f.len())?;
     let mut out = vec![in heap; R::zero(); long]?;
-    graeffe(f, out.as_mut_slice())?;
+    graeffe(f, &mut out)?;
     let row = write(heap, &out[0..f.len()])?;
     Ok(format!(in heap; "ok{row}")?)
 }
@@ -25,9 +26,9 @@ pub fn double<F: Field + Clone + Drop>(heap: Global, words: &[&str]) -> Result<S
     let [out, codes @ ..] = words else {
         return Err(NoAnswer::NoQuestion);
     };
-    let codes = text::read::numbers(heap, codes)?.ok_or(NoAnswer::NoQuestion)?;
-    let f = text::read::elements::<F>(heap, codes.as_slice())?;
-    transformed(heap, f.as_slice(), out, text::write::codes::<F>)
+    let codes = question::numbers(heap, codes)?;
+    let f = text::read::elements::<F>(heap, &codes)?;
+    transformed(heap, &f, out, text::write::codes::<F>)
 }
 
 // The transform of the dual numbers.
@@ -36,5 +37,5 @@ pub fn pairs<F: Field + Clone + Drop>(heap: Global, words: &[&str]) -> Result<St
         return Err(NoAnswer::NoQuestion);
     };
     let f = text::read::pairs::<F>(heap, duals)?.ok_or(NoAnswer::NoQuestion)?;
-    transformed(heap, f.as_slice(), out, text::write::pairs::<F>)
+    transformed(heap, &f, out, text::write::pairs::<F>)
 }

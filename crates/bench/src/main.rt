@@ -19,7 +19,8 @@ const ROUNDS: u32 = 100;
 // The multiplications of one transform: for each k, the lesser of k and 256 - k products, and one square.
 const PRODUCTS: u128 = 16641;
 
-// The elements whose codes follow a fixed linear congruence.
+// The elements whose codes follow a fixed linear congruence, which rootbench has too: they share only the libraries, where it
+// has no place.
 fn filled<F: Field + Drop>(heap: Global, n: usize) -> Result<Vec<F>, AllocError> {
     iter::successors(Some(1u32), |code| {
         Some(code.wrapping_mul(1103515245).wrapping_add(12345))
@@ -40,10 +41,11 @@ fn transforms<F: Field>(f: &mut [F], out: &mut [F], rounds: u32) -> Result<(), R
 }
 
 fn main(rt: HostRuntime) -> io::Result<()> {
-    let mut f = filled::<Residue>(rt.alloc(), SIZE)?;
-    let mut out = filled::<Residue>(rt.alloc(), SIZE)?;
+    let heap = rt.alloc();
+    let mut f = filled::<Residue>(heap, SIZE)?;
+    let mut out = filled::<Residue>(heap, SIZE)?;
     let start = Instant::now(&rt)?;
-    let done = transforms(f.as_mut_slice(), out.as_mut_slice(), ROUNDS);
+    let done = transforms(&mut f, &mut out, ROUNDS);
     let spent = start.elapsed(&rt)?.as_nanos() / 2 / u128::from(ROUNDS);
     if done.is_err() {
         return eprintln!(rt; "a transform was refused");

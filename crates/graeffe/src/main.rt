@@ -18,20 +18,21 @@ fn over<F: Field + Clone + Drop>(heap: Global, codes: &[u32]) -> Result<String, 
     }
     let f = text::read::elements::<F>(heap, codes)?;
     let mut out = vec![in heap; F::zero(); codes.len()]?;
-    match graeffe(f.as_slice(), out.as_mut_slice()) {
-        Ok(()) => text::write::codes(heap, out.as_slice()),
+    match graeffe(&f, &mut out) {
+        Ok(()) => text::write::codes(heap, &out),
         Err(why) => format!(in heap; " {why}"),
     }
 }
 
-// What is printed of one line. What it shares with rootlist stays twice: a helper would take a closure for each field.
+// What is printed of one line. rootlist has its like: a function of both would take a closure for each field, and the blanks,
+// to save three lines.
 fn told(heap: Global, line: &str) -> Result<String, AllocError> {
     let words = text::read::words(heap, line)?;
-    let Some(codes) = text::read::numbers(heap, words.as_slice())? else {
+    let Some(codes) = text::read::numbers(heap, &words)? else {
         return format!(in heap; "{line}\n  not a row of decimal numbers of at most 32 bits");
     };
-    let small = over::<Seventeen>(heap, codes.as_slice())?;
-    let large = over::<Residue>(heap, codes.as_slice())?;
+    let small = over::<Seventeen>(heap, &codes)?;
+    let large = over::<Residue>(heap, &codes)?;
     format!(in heap; "{line}\n  over 17:{small}\n  over 469762049:{large}")
 }
 

@@ -28,7 +28,7 @@ fn lists<F: Field>(
     rounds: u32,
 ) -> Result<RootList, Refusal> {
     for _ in 0..rounds {
-        let _ = roots(f, list, work)?;
+        roots(f, list, work)?;
     }
     roots(f, list, work)
 }
@@ -41,14 +41,10 @@ fn main(rt: HostRuntime) -> io::Result<()> {
         multiplicity: 0,
     };
     let mut list = vec![in heap; empty; DEGREE]?;
-    let mut work = vec![in heap; Dual::<Residue>::zero(); 27 * (DEGREE + 1)]?;
+    let mut work = vec![in heap; Dual::<Residue>::zero(); (Residue::height() as usize + 1)
+        * (DEGREE + 1)]?;
     let start = Instant::now(&rt)?;
-    let done = lists(
-        f.as_slice(),
-        list.as_mut_slice(),
-        work.as_mut_slice(),
-        ROUNDS,
-    );
+    let done = lists(&f, &mut list, &mut work, ROUNDS);
     let micros = start.elapsed(&rt)?.as_micros() / (u128::from(ROUNDS) + 1);
     let Ok(all) = done else {
         return eprintln!(rt; "the list was refused");

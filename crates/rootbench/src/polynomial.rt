@@ -26,7 +26,7 @@ pub fn codes<F: Field + Clone + Drop>(
     });
     for code in drawn.skip(1).take(degree) {
         f.push(F::zero())?;
-        times(f.as_mut_slice(), F::from_code(Code(code % F::size())));
+        times(&mut f, F::from_code(Code(code % F::size())));
     }
     f.iter().map(|x| x.to_code()).collect(heap)
 }

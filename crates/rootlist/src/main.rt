@@ -25,24 +25,25 @@ fn over<F: Field + Clone + Drop>(heap: Global, f: &[Code]) -> Result<String, All
     let levels = F::height() as usize + 1;
     let mut list = vec![in heap; empty; f.len()]?;
     let mut work = vec![in heap; Dual::<F>::zero(); levels.saturating_mul(f.len())]?;
-    match roots(f, list.as_mut_slice(), work.as_mut_slice()) {
+    match roots(f, &mut list, &mut work) {
         Ok(all) => {
             list.truncate(all.count);
-            told::roots(heap, all, list.as_slice())
+            told::roots(heap, all, &list)
         }
         Err(why) => format!(in heap; "{why}"),
     }
 }
 
-// What is printed of one line. What it shares with graeffe stays twice: a helper would take a closure for each field.
+// What is printed of one line. graeffe has its like: a function of both would take a closure for each field, and the blanks,
+// to save three lines.
 fn shown(heap: Global, line: &str) -> Result<String, AllocError> {
     let words = text::read::words(heap, line)?;
-    let Some(numbers) = text::read::numbers(heap, words.as_slice())? else {
+    let Some(numbers) = text::read::numbers(heap, &words)? else {
         return format!(in heap; "{line}\n  not a row of decimal numbers of at most 32 bits");
     };
-    let f = text::read::codes(heap, numbers.as_slice())?;
-    let small = over::<Seventeen>(heap, f.as_slice())?;
-    let large = over::<Residue>(heap, f.as_slice())?;
+    let f = text::read::codes(heap, &numbers)?;
+    let small = over::<Seventeen>(heap, &f)?;
+    let large = over::<Residue>(heap, &f)?;
     format!(in heap; "{line}\n  over 17: {small}\n  over 469762049: {large}")
 }
 

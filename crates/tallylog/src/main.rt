@@ -33,7 +33,7 @@ fn contents(heap: Global, tally: &Closed<Residue>) -> Result<String, AllocError>
     let codes: Vec<u32> = (0..tally.frame().count())
         .map(|k| tally.sum_code(k).0)
         .collect(heap)?;
-    let sums = text::write::row(heap, codes.as_slice())?;
+    let sums = text::write::row(heap, &codes)?;
     format!(in heap; "turnover {}\nsums{sums}", tally.turnover())
 }
 
@@ -43,10 +43,9 @@ fn main(rt: HostRuntime) -> io::Result<()> {
     for line in BufReader::new(heap, rt.stdin())?.lines(heap) {
         let line = line?;
         let words = text::read::words(heap, line.as_str())?;
-        if let Err(why) = call(&mut tally, words.as_slice()) {
-            println!(rt; "{}: denied, {why}", line.as_str())?;
+        if let Err(why) = call(&mut tally, &words) {
+            println!(rt; "{line}: denied, {why}")?;
         }
     }
-    rt.println(contents(heap, &tally.close())?)?;
-    Ok(())
+    rt.println(contents(heap, &tally.close())?)
 }

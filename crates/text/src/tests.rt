@@ -8,7 +8,7 @@ fn calls_succeed(rt: HostRuntime) -> Result<(), Fail> {
     let heap = rt.alloc();
     let words = read::words(heap, " 4 12\t1 ")?;
     assert_eq!(rt; words.len(), 3);
-    let numbers = read::numbers(heap, words.as_slice())?;
+    let numbers = read::numbers(heap, &words)?;
     assert!(rt; numbers.is_some());
     let codes = read::codes(heap, &[4, 12, 1])?;
     assert_eq!(rt; codes.len(), 3);

@@ -28,7 +28,7 @@ pub fn codes<F: Field>(heap: Global, elements: &[F]) -> Result<String, AllocErro
     ensures { IfOk result (λ s. Shown F.Ring.value (λ c. F.Ring.value (F.Field.at c)) (λ c. c < F.Field.order) code_text elements.now (string_bytes s)) }
 {
     let codes: Vec<u32> = elements.iter().map(|x| x.to_code().0).collect(heap)?;
-    row(heap, codes.as_slice())
+    row(heap, &codes)
 }
 
 // Two codes, shown with a colon between.
@@ -57,7 +57,7 @@ pub fn pairs<F: Field>(heap: Global, duals: &[Dual<F>]) -> Result<String, AllocE
             eps: x.eps.to_code().0,
         })
         .collect(heap)?;
-    row(heap, codes.as_slice())
+    row(heap, &codes)
 }
 
 /// A refusal by its number and values.

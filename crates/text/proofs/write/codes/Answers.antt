@@ -13,5 +13,5 @@ returns g c =
     let named = gathered (NamedIn value of (λ n. n < g.F.Field.order) code_text (λ n. n)) c.map.result c.in_ok-codes.codes c.in_ok-codes.ensures.ran (cc) c.map.ensures.closure (λ x y q k. search rules) in
     IfOk-weaker c.row.result _ _
     (λ s shows. shown_zip value of (λ n. n < g.F.Field.order) code_text (λ n. n) c.args.elements.now (vec_items c.in_ok-codes.codes) (string_bytes s) named
-    (shows decimal (λ k d l. refl) ∙ ap (flat_map code_text) c.as_slice.ensures.value))
+    (shows decimal (λ k d l. refl) ∙ ap (flat_map code_text) c.deref.ensures.value))
     c.row.ensures
