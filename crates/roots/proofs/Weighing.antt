@@ -1,6 +1,7 @@
 -- Records with their multiplicities.
-use Rattle.std.proofs.Common.{◌≡◌, ℕ, zero, suc, ◌+◌, ◌<◌, List, [], ◌∷◌, ◌++◌, map, length, get_or, take, set, refl, ap, ◌∙◌, arith}
-use Rattle.std.proofs.lemmas.List.{take_more, map-append}
+use Rattle.std.proofs.Common.{◌≡◌, ℕ, zero, suc, ◌+◌, List, [], ◌∷◌, map, get_or, set, refl, ap, ◌∙◌}
+use Rattle.std.specs.List.{sum_by}
+use Rattle.std.proofs.lemmas.List.Sums.{sum_by-cons}
 use Rattle.roots.specs.Lists.{added}
 use Rattle.roots.specs.Roots.{codes}
 use Rattle.roots.specs.declared.record.RootRecord.{RootRecord}
@@ -11,14 +12,6 @@ codes_kept [] i r d e = refl
 codes_kept (x ∷ xs) zero r d e = ap (λ c. c.0 ∷ codes xs) e
 codes_kept (x ∷ xs) (suc i) r d e = ap (λ l. x.code.0 ∷ l) (codes_kept xs i r d e)
 
-added-append : (ms ns : List ℕ) → added (ms ++ ns) ≡ added ms + added ns
-added-append [] ns = omega arith
-added-append (m ∷ ms) ns = omega (arith, added-append ms ns)
-
--- one more multiplicity
-pub added_more : (xs : List RootRecord) (i : ℕ) (d : RootRecord) → i < length xs
-    → added (map (λ x. x.multiplicity) (take (i + 1) xs)) ≡ added (map (λ x. x.multiplicity) (take i xs)) + (get_or xs i d).multiplicity
-added_more xs i d h =
-    ap (λ l. added (map (λ x. x.multiplicity) l)) (take_more xs i d h)
-    ∙ ap added (map-append (λ x. x.multiplicity) (take i xs) (get_or xs i d ∷ []))
-    ∙ added-append (map (λ x. x.multiplicity) (take i xs)) ((get_or xs i d).multiplicity ∷ []) ∙ omega arith
+pub sum_by-added : {X : Type 0} (f : X → ℕ) (xs : List X) → sum_by f xs ≡ added (map f xs)
+sum_by-added f [] = refl
+sum_by-added f (x ∷ xs) = sum_by-cons f x xs ∙ ap (λ n. f x + n) (sum_by-added f xs)

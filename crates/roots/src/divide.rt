@@ -29,6 +29,7 @@ pub(crate) fn multiplicity<F: Field>(f: Coefficients<'_, F>, work: &mut [Dual<F>
     let _order = field_laws::<F>();
     let n = f.codes.len();
     start(f, &mut work[..n]);
+    // By number: how many divisions leave no remainder is the answer, and each goes on one place further.
     for e in 0..n {
         divide(&mut work[e..n], a);
         if !work[e].re.same(F::zero()) {

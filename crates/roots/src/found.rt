@@ -30,6 +30,7 @@ fn place(roots: &mut [RootRecord], code: Code)
 #[derive(Drop)]
 pub(crate) struct Found<'a> {
     pub(crate) list: &'a mut [RootRecord],
+    // A number and not a vector's length: the list is the caller's, since this library allocates nothing.
     pub(crate) count: usize,
     pub(crate) trials: u64,
     ghost inside: { count ≤ length list.now },

@@ -26,13 +26,12 @@ pub(crate) fn rise<F: Field>(f: Coefficients<'_, F>, k: u32, work: &mut [Dual<F>
         start(f, front);
     } else {
         start(f, back);
+        climb(back, front);
     }
-    for left in (0..k).rev() {
-        if left % 2 == 0 {
-            climb(back, front);
-        } else {
-            climb(front, back);
-        }
+    // Two levels in each turn, not one and a swap: an invariant has the lists behind the two references, and not which one is the front.
+    for _ in 0..k / 2 {
+        climb(front, back);
+        climb(back, front);
     }
 }
 

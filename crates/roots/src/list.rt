@@ -15,6 +15,7 @@ use algebra::refusal::Refusal;
 /// How many roots there are, whether their multiplicities add up to the degree, and how many elements were tried.
 #[derive(Clone, Copy, PartialEq, Eq, Debug)]
 pub struct RootList {
+    // A number and not a slice: the list is the caller's, since this library allocates nothing.
     pub count: usize,
     pub splits: bool,
     pub trials: u64,

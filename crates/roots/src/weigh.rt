@@ -30,10 +30,5 @@ pub(crate) fn total(roots: &[RootRecord]) -> u64
     requires { length roots.now ≤ 256 }
     ensures { result ≡ added (map (λ root. root.multiplicity) roots.now) }
 {
-    let mut sum = 0u64;
-    // In a loop: that a multiplicity fits 32 bits is not known to the proof of a chain that ends in `sum`.
-    for root in roots {
-        sum += u64::from(root.multiplicity);
-    }
-    sum
+    roots.iter().map(|root| u64::from(root.multiplicity)).sum()
 }
