@@ -39,11 +39,10 @@ impl Writer<'_> {
         ensures same_reference { self.new.out.ghost_name ≡ self.old.out.ghost_name }
         ensures puts { SumsPut F.Field.order (element F.Ring F.Field.own) (contents F.Ring tally.now) self.old.out.now self.old.place self.new.out.now self.new.place }
     {
-        let count = tally.frame().count();
-        self.number(count as u32);
-        // a tally gives the codes of its sums one by one, by their numbers
-        for k in 0..count {
-            self.number(tally.sum_code(k).0);
+        let sums = tally.sums();
+        self.number(sums.len() as u32);
+        for sum in sums {
+            self.number(sum.to_code().0);
         }
     }
 }

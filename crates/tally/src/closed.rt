@@ -1,4 +1,4 @@
-ghost use Rattle.std.specs.Prelude.{◌≡◌, ℕ, ◌<◌, ◌≤◌, true, ◌↔◌, slice_index_or, IfOk};
+ghost use Rattle.std.specs.Prelude.{◌≡◌, ℕ, ◌<◌, ◌≤◌, true, ◌↔◌, length, take, slice_index_or, IfOk};
 ghost use Rattle.algebra.specs.Refusals.{reply};
 ghost use Rattle.tally.specs.Contents.{count, comparing, Agree};
 ghost use Rattle.tally.specs.Bodies.{contents, element, Fresh};
@@ -61,6 +61,14 @@ impl<F: Field> Closed<F> {
         ensures { result ≡ self.now.turnover }
     {
         self.body.turnover
+    }
+
+    /// The sums that count.
+    pub fn sums(&self) -> &[F]
+        ensures front { result.now ≡ take (count (contents F.Ring self.now)) self.now.sums }
+        ensures enough { count (contents F.Ring self.now) ≤ length self.now.sums }
+    {
+        self.body.counted()
     }
 
     /// The code of the sum k; code 0 where the frame has no such sum.

@@ -58,7 +58,7 @@ impl<F: Field> Sums<F> {
     }
 
     // The turnover after a call that moves a quantity of a code, or why the call is refused.
-    pub(crate) fn admit(&self, code: Code, quantity: u32) -> Result<u32, Refusal>
+    fn admit(&self, code: Code, quantity: u32) -> Result<u32, Refusal>
         ensures answers { reply result ≡ answering F.Field.order self.now.turnover code.0 quantity }
         ensures turnover { IfOk result (λ t. t ≡ self.now.turnover + quantity) }
     {
@@ -76,7 +76,7 @@ impl<F: Field> Sums<F> {
     }
 
     // Adds n, n a, n a^2 and so on to the sums that count.
-    pub(crate) fn raise(&mut self, a: F, n: F)
+    fn raise(&mut self, a: F, n: F)
         ensures frame { (self.new.frame ≡ self.old.frame) × (self.new.turnover ≡ self.old.turnover) }
         ensures sums { (k : ℕ) → k < count (contents F.Ring self.old) → (contents F.Ring self.new).sum k ≡ F.Ring.ring.plus ((contents F.Ring self.old).sum k) (F.Ring.ring.times (F.Ring.value n) (power F.Ring.ring (F.Ring.value a) k)) }
     {
