@@ -1,6 +1,5 @@
 use crate::no_answer::NoAnswer;
 use crate::question;
-use algebra::code::Code;
 use algebra::dual::Dual;
 use algebra::field::Field;
 use algebra::ring::Ring;
@@ -19,11 +18,7 @@ pub fn listed<F: Field + Clone + Drop>(heap: Global, words: &[&str]) -> Result<S
     let room = question::length(list, f.len().saturating_sub(1))?;
     let levels = F::height() as usize + 1;
     let long = question::length(work, levels.saturating_mul(f.len()))?;
-    let empty = RootRecord {
-        code: Code(0),
-        multiplicity: 0,
-    };
-    let mut list = vec![in heap; empty; room]?;
+    let mut list = vec![in heap; RootRecord::default(); room]?;
     let mut work = vec![in heap; Dual::<F>::zero(); long]?;
     let all = roots(&f, &mut list, &mut work)?;
     list.truncate(all.count);

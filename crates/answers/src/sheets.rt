@@ -49,7 +49,7 @@ pub fn read<F: Field>(heap: Global, words: &[&str]) -> Result<String, NoAnswer> 
     let mut tally = Closed::<F>::blank(Frame::new(1, 0)?);
     let (name, rest) = sheet::read::read(&mut tally, &all)?;
     let name = text::write::hexadecimal(heap, name)?;
-    let sums = tallies::sums(heap, &tally)?;
+    let sums = text::write::codes(heap, tally.sums())?;
     let frame = tally.frame();
     Ok(format!(in heap;
         "ok {} {} {} {name} {}{sums}",

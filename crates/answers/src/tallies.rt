@@ -64,14 +64,6 @@ fn run<F: Field>(heap: Global, tally: &mut Open<F>, calls: &[Asked]) -> Result<S
     Ok(row)
 }
 
-// The codes of the sums, a blank before each.
-pub fn sums<F: Field>(heap: Global, tally: &Closed<F>) -> Result<String, AllocError> {
-    let codes: Vec<u32> = (0..tally.frame().count())
-        .map(|k| tally.sum_code(k).0)
-        .collect(heap)?;
-    text::write::row(heap, &codes)
-}
-
 // The answers to the calls on a tally of the frame in the first two words, then its turnover and its sums.
 pub fn log<F: Field>(heap: Global, words: &[&str]) -> Result<String, NoAnswer> {
     let [width, spare, calls @ ..] = words else {
@@ -85,7 +77,7 @@ pub fn log<F: Field>(heap: Global, words: &[&str]) -> Result<String, NoAnswer> {
     let answers = run(heap, &mut tally, &calls)?;
     let tally = tally.close();
     let turnover = tally.turnover();
-    let sums = sums(heap, &tally)?;
+    let sums = text::write::codes(heap, tally.sums())?;
     Ok(format!(in heap; "ok {answers} {turnover}{sums}")?)
 }
 

@@ -36,11 +36,7 @@ fn lists<F: Field>(
 fn main(rt: HostRuntime) -> io::Result<()> {
     let heap = rt.alloc();
     let f = polynomial::codes::<Residue>(heap, DEGREE)?;
-    let empty = RootRecord {
-        code: Code(0),
-        multiplicity: 0,
-    };
-    let mut list = vec![in heap; empty; DEGREE]?;
+    let mut list = vec![in heap; RootRecord::default(); DEGREE]?;
     let mut work = vec![in heap; Dual::<Residue>::zero(); (Residue::height() as usize + 1)
         * (DEGREE + 1)]?;
     let start = Instant::now(&rt)?;

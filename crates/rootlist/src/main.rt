@@ -18,12 +18,8 @@ use std::io::{BufRead, BufReader};
 
 // The roots over one field, or why there are none.
 fn over<F: Field + Clone + Drop>(heap: Global, f: &[Code]) -> Result<String, AllocError> {
-    let empty = RootRecord {
-        code: Code(0),
-        multiplicity: 0,
-    };
     let levels = F::height() as usize + 1;
-    let mut list = vec![in heap; empty; f.len()]?;
+    let mut list = vec![in heap; RootRecord::default(); f.len()]?;
     let mut work = vec![in heap; Dual::<F>::zero(); levels.saturating_mul(f.len())]?;
     match roots(f, &mut list, &mut work) {
         Ok(all) => {

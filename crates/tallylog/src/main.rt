@@ -30,10 +30,7 @@ fn call(tally: &mut Open<Residue>, words: &[&str]) -> Result<(), Denial> {
 
 // The turnover and the sums.
 fn contents(heap: Global, tally: &Closed<Residue>) -> Result<String, AllocError> {
-    let codes: Vec<u32> = (0..tally.frame().count())
-        .map(|k| tally.sum_code(k).0)
-        .collect(heap)?;
-    let sums = text::write::row(heap, &codes)?;
+    let sums = text::write::codes(heap, tally.sums())?;
     format!(in heap; "turnover {}\nsums{sums}", tally.turnover())
 }
 
