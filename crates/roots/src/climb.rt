@@ -16,11 +16,12 @@ pub(crate) fn start<F: Field>(f: Coefficients<'_, F>, level: &mut [Dual<F>])
     ensures written { duals F.Ring level.new ≡ tangent F.Ring.ring (polynomial F.Ring F.Field.own f.entry.codes.now) }
     ensures held { (j : ℕ) (d : Dual F) → j < length level.new → Held F.Ring (slice_index_or level.new j d) }
 {
+    // Not zipped with the codes: what `iter_mut` has written under a `zip` is not known to proofs.
     for (i, place) in level.iter_mut().enumerate() {
-        let eps = match f.codes.get(i + 1) {
-            Some(next) => whole::<F>(i as u32 + 1).mul(F::from_code(*next)),
-            None => F::zero(),
-        };
+        let eps = f.codes.get(i + 1).map_or(
+            F::zero(),
+            |next| whole::<F>(i as u32 + 1).mul(F::from_code(*next)),
+        );
         *place = Dual {
             re: F::from_code(f.codes[i]),
             eps,

@@ -1,4 +1,4 @@
-use Rattle.std.proofs.Common.{◌≡◌, suc, ◌+◌, length, sym, ap, ◌∙◌, subst, ap₂, add-one, arith}
+use Rattle.std.proofs.Common.{◌≡◌, suc, ◌+◌, length, sym, ap, ◌∙◌, subst, ap₂, add-one, arith, rules, Option, None, Some, IfSome, MatchOption}
 use lib.ListN.{length-map}
 use Rattle.std.proofs.lemmas.List.{get_or-map, get_or_past}
 use Rattle.algebra.specs.Rings.{number}
@@ -11,7 +11,10 @@ use Rattle.roots.proofs.Slopes.{pair_path}
 use Rattle.roots.proofs.Slices.{values_are}
 use Rattle.roots.proofs.TangentLaws.{length-tangent, tangent-place}
 use Rattle.roots.proofs.climb.start.Goals as goal
-use Rattle.roots.proofs.climb.start.Goals.{in-Some, in-None}
+
+looked_up : {X A B G : Type 0} {P Q S : X → Type 0} (r : Option X) → IfSome r S → MatchOption r A P → MatchOption r B Q → (A → B → G) → ((x : X) → S x → P x → Q x → G) → G
+looked_up None s a b n m = n a b
+looked_up (Some x) s a b n m = m x s a b
 
 pub loop-i-preserved : goal.loop-i-preserved
 loop-i-preserved g c =
@@ -20,27 +23,17 @@ loop-i-preserved g c =
     let o = R.ring in
     let cs = c.args.f.codes.now in
     let f = polynomial R F cs in
-    let i = c.loop-i.i in
+    let i = c.loop-i.i-counter in
     let long : length f ≡ length cs = length-map cs (λ x. element R F x.0) in
-    let re : R.value c.from_code-in-loop-i.result ≡ coefficient o f i =
-    c.from_code-in-loop-i.ensures.means ∙ sym (get_or-map (λ x. element R F x.0) cs i _ o.nought (omega arith)) in
-    let eps : R.value c.match-get.eps ≡ o.times (number o (suc i)) (coefficient o f (suc i)) = elim c.match-get.branch [
-      | in-Some w ↦
-          let h = w.in-Some.ensures.lookup in
-          ap R.value w.eps-is ∙ w.mul-eps.ensures.means
-          ∙ ap₂ o.times (w.whole.ensures.means ∙ ap (number o) (add-one i))
-          (w.from_code.ensures.means ∙ ap (λ x. element R F x.0) h.1 ∙ sym (get_or-map (λ x. element R F x.0) cs (i + 1) w.in-Some.next.now o.nought h.3.0) ∙ ap (coefficient o f) (add-one i))
-      | in-None w ↦
-          let h = w.in-None.ensures.lookup in
-          ap R.value w.eps-is ∙ w.zero-eps.ensures.means
-          ∙ sym (ap (o.times (number o (suc i))) (get_or_past f (suc i) o.nought (omega (arith, h.3))) ∙ times-nought o g.met.F.Ring.lawful (number o (suc i)))
-    ] in
-    let held : R.canonical c.match-get.eps = elim c.match-get.branch [
-      | in-Some w ↦ subst R.canonical (sym w.eps-is) w.mul-eps.ensures.held
-      | in-None w ↦ subst R.canonical (sym w.eps-is) w.zero-eps.ensures.held
-    ] in
+    let re : R.value c.from_code.result ≡ coefficient o f i =
+    c.from_code.ensures.means ∙ sym (get_or-map (λ x. element R F x.0) cs i _ o.nought (omega arith)) in
+    let run : MatchOption c.get.result (c.map_or-eps.result ≡ c.zero.result) (λ x. (R.value c.map_or-eps.result ≡ o.times (number o (i + 1)) (element R F x.now.0)) × R.canonical c.map_or-eps.result) = search rules in
+    let eps : (R.value c.map_or-eps.result ≡ o.times (number o (suc i)) (coefficient o f (suc i))) × R.canonical c.map_or-eps.result =
+    looked_up c.get.result c.get.ensures.lookup.1 c.get.ensures.lookup.3 run
+    (λ past zero. (ap R.value zero ∙ c.zero.ensures.means ∙ sym (ap (o.times (number o (suc i))) (get_or_past f (suc i) o.nought (omega (arith, past, long))) ∙ times-nought o g.met.F.Ring.lawful (number o (suc i))), subst R.canonical (sym zero) c.zero.ensures.held))
+    (λ x at inside product. (product.0 ∙ ap₂ o.times (ap (number o) (add-one i)) (ap (λ x. element R F x.0) at ∙ sym (get_or-map (λ x. element R F x.0) cs (i + 1) x.now o.nought inside.0) ∙ ap (coefficient o f) (add-one i)), product.1)) in
     place_more (λ j x. (dualized R x ≡ (coefficient o f j, o.times (number o (suc j)) (coefficient o f (suc j)))) × Held R x)
-    c.loop-i.level i _ (omega arith) (pair_path re eps, (c.from_code-in-loop-i.ensures.held, held)) c.loop-i.invariant
+    c.loop-i.level i _ (omega arith) (pair_path re eps.0, (c.from_code.ensures.held, eps.1)) c.loop-i.invariant
 
 pub returns : goal.returns
 returns g c =
