@@ -6,10 +6,7 @@ ghost use Rattle.sheet.specs.Sections.{FrameTold, Puts};
 use crate::fault::{FrameFault, NumberFault};
 use crate::reader::Reader;
 use crate::writer::Writer;
-use tally::frame::Frame;
-
-// The most that the width and the spare of a frame may be.
-const MOST: u32 = 32;
+use tally::frame::{Frame, WIDEST};
 
 impl Reader<'_> {
     // The frame and the turnover that the first section tells, in a field of this order.
@@ -21,8 +18,8 @@ impl Reader<'_> {
     {
         let _four = self.number(4..=4, NumberFault::Count)?;
         let _order = self.number(order..=order, NumberFault::Value)?;
-        let width = self.number(1..=MOST, NumberFault::Value)?;
-        let spare = self.number(0..=MOST, NumberFault::Value)?;
+        let width = self.number(1..=WIDEST, NumberFault::Value)?;
+        let spare = self.number(0..=WIDEST, NumberFault::Value)?;
         let turnover = self.number(0..=(order - 1) / 4, NumberFault::Value)?;
         // the ranges of the width and the spare are those of a frame
         let frame = Frame::new(width, spare).unwrap();

@@ -9,7 +9,7 @@ use crate::reader::Reader;
 use algebra::code::Code;
 use algebra::field::Field;
 use tally::closed::Closed;
-use tally::sums::MOST;
+use tally::sums::MOST_SUMS;
 
 /// Fills the tally from the sheet at the start of the bytes, and answers the job name and the bytes after the sheet.
 /// The first fault from the left refuses it, and leaves the tally as it was.
@@ -26,7 +26,7 @@ pub fn read<'a, F: Field>(
     let mut reader = Reader::new(bytes);
     let (frame, turnover) = reader.frame(order)?;
     // the library allocates nothing, so there is room for the codes of any frame
-    let mut room = [Code(0); MOST];
+    let mut room = [Code(0); MOST_SUMS];
     let codes = &mut room[..frame.count()];
     reader.sums(order, codes)?;
     let name = reader.name()?;

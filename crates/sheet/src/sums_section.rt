@@ -12,13 +12,13 @@ use crate::writer::Writer;
 use algebra::code::Code;
 use algebra::field::Field;
 use tally::closed::Closed;
-use tally::sums::MOST;
+use tally::sums::MOST_SUMS;
 
 impl Reader<'_> {
     // The codes of the sums that the second section tells; as many must stand there as `codes` has room for.
     pub(crate) fn sums(&mut self, order: u32, codes: &mut [Code]) -> Result<(), SumsFault>
         requires order { 1 ≤ order }
-        requires most { length codes.old ≤ MOST }
+        requires most { length codes.old ≤ MOST_SUMS }
         requires start { self.old.place ≡ 20 }
         ensures same { self.new.bytes.now ≡ self.old.bytes.now }
         ensures answers { MatchResult result (λ _. (self.new.place ≡ 24 + 4 * length codes.old) × SumsTold order (length codes.old) self.old.bytes.now (code_at codes.new)) (λ e. item_answer 2 e.0 ≡ sums_items order (length codes.old) self.old.bytes.now) }

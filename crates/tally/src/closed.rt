@@ -6,7 +6,7 @@ ghost use Rattle.tally.specs.Access.{code_at};
 ghost use Rattle.tally.specs.Reach.{Reaches};
 
 use crate::frame::Frame;
-use crate::sums::{MOST, Sums};
+use crate::sums::{MOST_SUMS, Sums};
 use algebra::code::Code;
 use algebra::field::{Field, field_laws};
 use algebra::refusal::Refusal;
@@ -88,8 +88,8 @@ impl<F: Field> Closed<F> {
     pub fn restore(&mut self, frame: Frame, turnover: u32, codes: &[Code])
         ensures framed { self.new.frame ≡ frame }
         ensures turned { self.new.turnover ≡ turnover }
-        ensures sums { (k : ℕ) → k < MOST → (contents F.Ring self.new).sum k ≡ element F.Ring F.Field.own (code_at codes.now k) }
-        ensures held { (k : ℕ) (d : F) → k < MOST → F.Ring.canonical (slice_index_or self.new.sums k d) }
+        ensures sums { (k : ℕ) → k < MOST_SUMS → (contents F.Ring self.new).sum k ≡ element F.Ring F.Field.own (code_at codes.now k) }
+        ensures held { (k : ℕ) (d : F) → k < MOST_SUMS → F.Ring.canonical (slice_index_or self.new.sums k d) }
     {
         self.body = Sums {
             sums: array::from_fn(|k| element_at(codes, k)),

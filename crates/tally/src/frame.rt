@@ -1,8 +1,12 @@
 ghost use Rattle.std.specs.Prelude.{◌≡◌, ◌+◌, ◌*◌, ◌≤◌, IfOk};
 ghost use Rattle.algebra.specs.Refusals.{reply};
+ghost use Rattle.tally.specs.declared.frame.TheConstants.{WIDEST};
 ghost use Rattle.tally.specs.Contents.{framing};
 
 use algebra::refusal::Refusal;
+
+/// The most that a width or a spare may be.
+pub const WIDEST: u32 = 32;
 
 /// The width w and the spare s of a tally, which keeps 2 w + s sums: w is the number of codes that a difference can name,
 /// and s the number of sums more by which it is checked.
@@ -10,7 +14,7 @@ use algebra::refusal::Refusal;
 pub struct Frame {
     pub width: u32,
     pub spare: u32,
-    ghost ok: { (1 ≤ width) × (width ≤ 32) × (spare ≤ 32) },
+    ghost ok: { (1 ≤ width) × (width ≤ WIDEST) × (spare ≤ WIDEST) },
 }
 
 impl Frame {
@@ -19,7 +23,7 @@ impl Frame {
         ensures answers { reply result ≡ framing width spare }
         ensures made { IfOk result (λ f. (f.width ≡ width) × (f.spare ≡ spare)) }
     {
-        if width == 0 || width > 32 || spare > 32 {
+        if width == 0 || width > WIDEST || spare > WIDEST {
             return Err(Refusal::Frame);
         }
         Ok(Frame { width, spare })

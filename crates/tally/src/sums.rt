@@ -12,13 +12,13 @@ use algebra::field::{Field, whole};
 use algebra::refusal::Refusal;
 
 /// The most sums that a frame has.
-pub const MOST: usize = 96;
+pub const MOST_SUMS: usize = 96;
 
 /// What a tally holds: its sums, of which those of its frame count, its frame, and its turnover.
 /// The array has room for the sums of any frame, because tallies allocate nothing.
 #[derive(Drop)]
 pub struct Sums<F> {
-    pub sums: [F; MOST],
+    pub sums: [F; MOST_SUMS],
     pub frame: Frame,
     pub turnover: u32,
 }
@@ -29,7 +29,7 @@ impl<F: Field> Sums<F> {
         ensures { Fresh F.Ring frame result }
     {
         Sums {
-            sums: [F::zero(); MOST],
+            sums: [F::zero(); MOST_SUMS],
             frame,
             turnover: 0,
         }
