@@ -27,7 +27,7 @@ pub(crate) fn build<F: Field>(f: Coefficients<'_, F>, work: &mut [Dual<F>])
     let n = f.codes.len();
     start(f, &mut work[..n]);
     let height = F::height() as usize;
-    // By number: a level and the one below it are lent from one work space, of which a proof has the length alone after a loop that steps on with `split_at_mut`.
+    // By number: after a loop that steps on by `split_at_mut` a proof has the length of the work space alone.
     for k in 0..height {
         add_level(&mut work[k * n..], n);
     }

@@ -28,7 +28,7 @@ pub(crate) fn rise<F: Field>(f: Coefficients<'_, F>, k: u32, work: &mut [Dual<F>
         start(f, back);
         climb(back, front);
     }
-    // Two levels in each turn, not one and a swap: an invariant has the lists behind the two references, and not which one is the front.
+    // Two levels in each turn, not one and a swap: an invariant does not know which of two references is the front.
     for _ in 0..k / 2 {
         climb(front, back);
         climb(back, front);

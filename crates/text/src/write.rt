@@ -17,6 +17,7 @@ pub fn row<T: Display>(heap: Global, items: &[T]) -> Result<String, AllocError>
     ensures { IfOk result (λ s. (show : T → List ℕ) → All (λ x. T.output x ≡ Some (show x)) items.now → string_bytes s ≡ flat_map (λ x. 32 ∷ show x) items.now) }
 {
     let mut text = String::new(heap);
+    // A loop, since what a closure writes to a text that it borrows is not known to proofs.
     for item in items {
         write!(text, " {item}")?;
     }
