@@ -5,16 +5,17 @@ ghost use Rattle.sheet.specs.Faults.{item_answer, fault_answer};
 /// Why an item of a sheet was refused, with the place of its first byte. An item is a count, a number or one byte of the name.
 #[derive(Clone, Copy, PartialEq, Eq, Debug)]
 pub enum NumberFault {
-    // the bytes end before the item does
+    /// The bytes end before the item does.
     Cut(usize),
-    // a count other than the one that must stand there
+    /// A count other than the one that must stand there.
     Count(usize),
-    // a number or a byte outside its range
+    /// A number or a byte outside its range.
     Value(usize),
 }
 
 impl NumberFault {
     /// The fault's number, the section and the place.
+    /// They are numbers, since others know the faults by them.
     pub fn told(self, section: u32) -> (u32, u32, usize)
         ensures { item_answer section self ≡ (result.0, result.1 ∷ result.2 ∷ []) }
     {
@@ -30,10 +31,13 @@ impl NumberFault {
 #[derive(Clone, Copy, PartialEq, Eq, Debug)]
 pub struct SectionFault<const SECTION: u32>(pub NumberFault);
 
+/// A fault in the section of the frame.
 pub type FrameFault = SectionFault<1>;
 
+/// A fault in the section of the sums.
 pub type SumsFault = SectionFault<2>;
 
+/// A fault in the section of the job name.
 pub type JobFault = SectionFault<3>;
 
 impl<const SECTION: u32> From<NumberFault> for SectionFault<SECTION> {
@@ -46,6 +50,7 @@ impl<const SECTION: u32> From<NumberFault> for SectionFault<SECTION> {
 
 impl<const SECTION: u32> SectionFault<SECTION> {
     /// The fault's number, its section and its place.
+    /// They are numbers, since others know the faults by them.
     pub fn told(self) -> (u32, u32, usize)
         ensures { item_answer SECTION self.entry.0 ≡ (result.0, result.1 ∷ result.2 ∷ []) }
     {
@@ -87,6 +92,7 @@ impl From<JobFault> for SheetFault {
 
 impl SheetFault {
     /// The fault's number, its section and its place.
+    /// They are numbers, since others know the faults by them.
     pub fn told(self) -> (u32, u32, usize)
         ensures { fault_answer self ≡ (result.0, result.1 ∷ result.2 ∷ []) }
     {

@@ -21,8 +21,7 @@ impl Reader<'_> {
         let width = self.number(1..=WIDEST, NumberFault::Value)?;
         let spare = self.number(0..=WIDEST, NumberFault::Value)?;
         let turnover = self.number(0..=(order - 1) / 4, NumberFault::Value)?;
-        // the ranges of the width and the spare are those of a frame
-        let frame = Frame::new(width, spare).unwrap();
+        let frame = Frame { width, spare };
         Ok((frame, turnover))
     }
 }

@@ -9,6 +9,7 @@ use crate::letter::is_letter;
 use std::ops::RangeInclusive;
 
 // The bytes of a sheet, and the place of the item that is read next.
+// The place is kept beside the bytes, because a fault tells it.
 #[derive(Drop)]
 pub(crate) struct Reader<'a> {
     pub(crate) bytes: &'a [u8],

@@ -51,12 +51,14 @@ impl<F: Field> Closed<F> {
         }
     }
 
+    /// The frame of the tally.
     pub fn frame(&self) -> Frame
         ensures { result ≡ self.now.frame }
     {
         self.body.frame
     }
 
+    /// The sum of all quantities that were moved, in or out.
     pub fn turnover(&self) -> u32
         ensures { result ≡ self.now.turnover }
     {

@@ -29,12 +29,14 @@ impl Frame {
         Ok(Frame { width, spare })
     }
 
+    /// The number of codes that a difference can name.
     pub fn width(self) -> u32
         ensures { result ≡ self.width }
     {
         self.width
     }
 
+    /// The number of sums more by which a difference is checked.
     pub fn spare(self) -> u32
         ensures { result ≡ self.spare }
     {

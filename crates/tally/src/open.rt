@@ -29,6 +29,7 @@ impl<F> Model for Open<F> {
 }
 
 impl<F: Field> Open<F> {
+    /// A tally of a frame in which nothing was moved.
     pub fn open(frame: Frame) -> Open<F>
         ensures fresh { Fresh F.Ring frame result }
         ensures logged { Keeps F.Ring F.Field.own [] result }

@@ -80,14 +80,13 @@ returns-clause-answers c =
     let p16 : c.number-4.new.self.place ≡ 16 = omega (arith, c.in_ok-spare.ensures.steps) in
     let s16 = c.number-4.ensures.same ∙ s12 in
     let g16 = rw (s16, p16, c.new-5.ensures.start, c.new-5.ensures.end) at c.in_ok-turnover.ensures.good in
-    let p20 : c.number-5.new.self.place ≡ 20 = omega (arith, c.in_ok-turnover.ensures.steps) in
-    let made = rw c.unwrap-frame.ensures at c.new-6.ensures.made in (
+    let p20 : c.number-5.new.self.place ≡ 20 = omega (arith, c.in_ok-turnover.ensures.steps) in (
       p20,
       record {
         count = exactly _ 0 4 _ g0;
         order = exactly _ 4 _ _ g4;
-        width = rw made.0 g8;
-        spare = rw made.1 g12;
+        width = g8;
+        spare = g12;
         turnover = g16;
       },
     )
