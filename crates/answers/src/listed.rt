@@ -29,6 +29,7 @@ pub fn listed<F: Field + Clone + Drop>(heap: Global, words: &[&str]) -> Result<S
 fn told(heap: Global, all: RootList, list: &[RootRecord]) -> Result<String, AllocError> {
     let splits = if all.splits { "yes" } else { "no" };
     let mut text = format!(in heap; "ok {} {splits} {}", all.count, all.trials)?;
+    // A loop, since a type that shows a record so would be longer.
     for record in list {
         write!(text, " {}:{}", record.code.0, record.multiplicity)?;
     }

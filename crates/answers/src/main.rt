@@ -24,6 +24,7 @@ fn over<F: Field + Clone + Drop>(
     name: &str,
     words: &[&str],
 ) -> Result<String, NoAnswer> {
+    // A match: a table of functions would be the same list, with a type for each entry.
     match name {
         "double" => transform::double::<F>(heap, words),
         "pairs" => transform::pairs::<F>(heap, words),

@@ -19,6 +19,6 @@ pub fn tangent<F: Field + Clone + Drop>(heap: Global, words: &[&str]) -> Result<
     match tangent_level(&f, level, &mut work) {
         Ok(()) => Ok(format!(in heap; "ok{}", text::write::pairs(heap, &work[0..f.len()])?)?),
         Err(Refusal::Level(_)) => Err(NoAnswer::NoQuestion),
-        Err(why) => Err(NoAnswer::Refused(why)),
+        Err(why) => Err(why.into()),
     }
 }

@@ -19,8 +19,8 @@ const ROUNDS: u32 = 100;
 // The multiplications of one transform: for each k, the lesser of k and 256 - k products, and one square.
 const PRODUCTS: u128 = 16641;
 
-// The elements whose codes follow a fixed linear congruence, which rootbench has too: they share only the libraries, where it
-// has no place.
+// The elements whose codes follow a fixed linear congruence.
+// rootbench has the congruence too: a function of both would want a library of its own.
 fn filled<F: Field + Drop>(heap: Global, n: usize) -> Result<Vec<F>, AllocError> {
     iter::successors(Some(1u32), |code| {
         Some(code.wrapping_mul(1103515245).wrapping_add(12345))

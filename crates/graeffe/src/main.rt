@@ -24,8 +24,8 @@ fn over<F: Field + Clone + Drop>(heap: Global, codes: &[u32]) -> Result<String, 
     }
 }
 
-// What is printed of one line. rootlist has its like: a function of both would take a closure for each field, and the blanks,
-// to save three lines.
+// What is printed of one line.
+// rootlist has its like: a function of both would take a closure for each field, to save three lines.
 fn told(heap: Global, line: &str) -> Result<String, AllocError> {
     let words = text::read::words(heap, line)?;
     let Some(codes) = text::read::numbers(heap, &words)? else {

@@ -20,7 +20,7 @@ pub fn codes<F: Field + Clone + Drop>(
     degree: usize,
 ) -> Result<Vec<Code>, AllocError> {
     let mut f = vec![in heap; F::one()]?;
-    // bench has this congruence too: they share only the libraries, where it has no place.
+    // bench has this congruence too: a function of both would want a library of its own.
     let drawn = iter::successors(Some(1u32), |code| {
         Some(code.wrapping_mul(1103515245).wrapping_add(12345))
     });

@@ -30,8 +30,8 @@ fn over<F: Field + Clone + Drop>(heap: Global, f: &[Code]) -> Result<String, All
     }
 }
 
-// What is printed of one line. graeffe has its like: a function of both would take a closure for each field, and the blanks,
-// to save three lines.
+// What is printed of one line.
+// graeffe has its like: a function of both would take a closure for each field, to save three lines.
 fn shown(heap: Global, line: &str) -> Result<String, AllocError> {
     let words = text::read::words(heap, line)?;
     let Some(numbers) = text::read::numbers(heap, &words)? else {

@@ -3,7 +3,7 @@ ghost use Rattle.sheet.specs.Sheets.{word};
 ghost use Rattle.sheet.specs.Sections.{Puts};
 
 // The bytes that a sheet is written to, and the place of the item that is written next.
-// The place is kept beside the bytes, because those before it are written already.
+// The place is kept beside the bytes, because contracts speak of the whole output.
 #[derive(Drop)]
 pub(crate) struct Writer<'a> {
     pub(crate) out: &'a mut [u8],
