@@ -44,7 +44,7 @@ impl<F: Field> Sums<F> {
     }
 
     // Moves a quantity of a code, in or out.
-    // They are two parameters, because a struct of both would be made only to be taken apart.
+    // Code and quantity stay two parameters, because a struct of both would be made only to be taken apart.
     pub(crate) fn call(&mut self, call: Call, code: Code, quantity: u32) -> Result<(), Refusal>
         ensures answers { reply result ≡ answering F.Field.order self.old.turnover code.0 quantity }
         ensures moves { MatchResult result (λ _. Moves F.Ring F.Field.own call code.0 quantity self.old self.new) (λ _. self.new ≡ self.old) }
