@@ -51,14 +51,14 @@ impl Display for Pair {
 pub fn pairs<F: Field>(heap: Global, duals: &[Dual<F>]) -> Result<String, AllocError>
     ensures { IfOk result (λ s. Shown (both_mean F.Ring.value) (both_named (λ c. F.Ring.value (F.Field.at c))) (λ p. (p.0 < F.Field.order) × (p.1 < F.Field.order)) pair_text duals.now (string_bytes s)) }
 {
-    let codes: Vec<Pair> = duals
+    let pairs: Vec<Pair> = duals
         .iter()
         .map(|x| Pair {
             re: x.re.to_code().0,
             eps: x.eps.to_code().0,
         })
         .collect(heap)?;
-    row(heap, &codes)
+    row(heap, &pairs)
 }
 
 /// A refusal by its number and values.

@@ -11,7 +11,8 @@ returns g c =
     let value = g.F.Ring.value in
     let of : ℕ → g.F.Ring.ring.V = λ n. value (g.F.Field.at n) in
     let named = gathered (NamedIn value of (λ n. n < g.F.Field.order) code_text (λ n. n)) c.map.result c.in_ok-codes.codes c.in_ok-codes.ensures.ran (cc) c.map.ensures.closure (λ x y q k. search rules) in
-    IfOk-weaker c.row.result _ _
+    let shown = IfOk-weaker c.row.result _ _
     (λ s shows. shown_zip value of (λ n. n < g.F.Field.order) code_text (λ n. n) c.args.elements.now (vec_items c.in_ok-codes.codes) (string_bytes s) named
     (shows decimal (λ k d l. refl) ∙ ap (flat_map code_text) c.deref.ensures.value))
-    c.row.ensures
+    c.row.ensures in
+    search (rules, shown)
