@@ -3,6 +3,6 @@ pub mod Refusing
 pub mod PowerSums
 pub mod Wholes
 pub mod Nets
+pub mod Netting
 pub mod Agreeing
 pub mod Comparing
-pub mod Restoring

@@ -108,6 +108,10 @@ module _ (o : Ops) (L : Lawful o) (at : ℕ → o.V) where
   moment_push [] l k = L.plus_comm (part o at l k) o.nought
   moment_push (x ∷ log) l k = ap (o.plus (part o at x k)) (moment_push log l k) ∙ sym (L.plus_assoc (part o at x k) (moment o at log k) (part o at l k))
 
+  -- a tally in which nothing was moved has kept the empty log
+  pub kept_none : (q : ℕ) (s : Contents o.V) → s.turnover ≡ 0 → ((k : ℕ) → k < count s → s.sum k ≡ o.nought) → Kept o q at [] s
+  kept_none q s e h = record { answered = tt; turnover = e; sums = h }
+
   -- a refused line changes nothing
   pub kept_refused : (q : ℕ) (log : Log) (s : Contents o.V) (l : Line) → Kept o q at log s
       → l.answer ≡ answering q s.turnover l.code l.quantity → took l ≡ false → Kept o q at (log ++ (l ∷ [])) s

@@ -10,7 +10,6 @@ use crate::sums::{MOST_SUMS, Sums};
 use algebra::code::Code;
 use algebra::field::{Field, field_laws};
 use algebra::refusal::Refusal;
-use std::array;
 use std::marker::Model;
 
 /// A tally that can be compared and written, as often as wanted.
@@ -93,18 +92,6 @@ impl<F: Field> Closed<F> {
         ensures sums { (k : ℕ) → k < MOST_SUMS → (contents F.Ring self.new).sum k ≡ element F.Ring F.Field.own (code_at codes.now k) }
         ensures held { (k : ℕ) (d : F) → k < MOST_SUMS → F.Ring.canonical (slice_index_or self.new.sums k d) }
     {
-        self.body = Sums {
-            sums: array::from_fn(|k| element_at(codes, k)),
-            frame,
-            turnover,
-        };
+        self.body.restore(frame, turnover, codes);
     }
-}
-
-// The element of the code at k, and zero past the end of the codes.
-fn element_at<F: Field>(codes: &[Code], k: usize) -> F
-    ensures means { F.Ring.value result ≡ element F.Ring F.Field.own (code_at codes.now k) }
-    ensures held { F.Ring.canonical result }
-{
-    F::from_code(codes.get(k).copied().unwrap_or(Code(0)))
 }

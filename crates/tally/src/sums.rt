@@ -1,9 +1,10 @@
-ghost use Rattle.std.specs.Prelude.{◌≡◌, ℕ, ◌+◌, ◌<◌, ◌≤◌, length, take, IfOk, MatchResult};
+ghost use Rattle.std.specs.Prelude.{◌≡◌, ℕ, ◌+◌, ◌<◌, ◌≤◌, length, take, slice_index_or, IfOk, MatchResult};
 ghost use Rattle.algebra.specs.Refusals.{reply};
 ghost use Rattle.algebra.specs.Rings.{power};
 ghost use Rattle.tally.specs.Contents.{count, answering};
 ghost use Rattle.tally.specs.Logs.{line};
-ghost use Rattle.tally.specs.Bodies.{contents, Fresh, Moves, Continues};
+ghost use Rattle.tally.specs.Access.{code_at};
+ghost use Rattle.tally.specs.Bodies.{contents, element, Fresh, Moves, Continues};
 
 use crate::call::Call;
 use crate::frame::Frame;
@@ -88,4 +89,27 @@ impl<F: Field> Sums<F> {
             term = term.mul(a);
         }
     }
+
+    // Replaces all that is held: the sum k becomes the element of the code at k, and zero past the end of the codes.
+    pub(crate) fn restore(&mut self, frame: Frame, turnover: u32, codes: &[Code])
+        ensures framed { self.new.frame ≡ frame }
+        ensures turned { self.new.turnover ≡ turnover }
+        ensures sums { (k : ℕ) → k < MOST_SUMS → (contents F.Ring self.new).sum k ≡ element F.Ring F.Field.own (code_at codes.now k) }
+        ensures held { (k : ℕ) (d : F) → k < MOST_SUMS → F.Ring.canonical (slice_index_or self.new.sums k d) }
+    {
+        // In place: an array made by `from_fn` is copied once more.
+        for (k, sum) in self.sums.iter_mut().enumerate() {
+            *sum = element_at(codes, k);
+        }
+        self.frame = frame;
+        self.turnover = turnover;
+    }
+}
+
+// The element of the code at k, and zero past the end of the codes.
+fn element_at<F: Field>(codes: &[Code], k: usize) -> F
+    ensures means { F.Ring.value result ≡ element F.Ring F.Field.own (code_at codes.now k) }
+    ensures held { F.Ring.canonical result }
+{
+    F::from_code(codes.get(k).copied().unwrap_or(Code(0)))
 }
