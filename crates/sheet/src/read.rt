@@ -27,9 +27,9 @@ pub fn read<'a, F: Field>(
     let (frame, turnover) = reader.frame(order)?;
     // the library allocates nothing, so there is room for the codes of any frame
     let mut room = [Code(0); MOST_SUMS];
-    let codes = &mut room[..frame.count()];
-    reader.sums(order, codes)?;
+    reader.sums(order, &mut room[..frame.count()])?;
     let name = reader.name()?;
-    tally.restore(frame, turnover, codes);
+    // All of the room, past the sums too, where the codes are 0: from a fixed number of codes a tally is filled faster.
+    tally.restore(frame, turnover, &room);
     Ok((name, reader.rest()))
 }

@@ -38,6 +38,8 @@ impl<'a> Reader<'a> {
     }
 
     // The number at the place, which must lie in the range, else `fault` tells why not. The reader steps over it.
+    // Inlined, so that no range is made where its ends are known.
+    #[inline(always)]
     pub(crate) fn number<F: FnOnce(usize) -> NumberFault>(
         &mut self,
         range: RangeInclusive<u32>,

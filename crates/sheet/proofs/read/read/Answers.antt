@@ -1,5 +1,5 @@
-use Rattle.std.proofs.Common.{◌≡◌, ◌+◌, ◌*◌, ◌≤◌, Ok, sym, ap, ◌∙◌, subst, refl, arith}
-use Rattle.std.proofs.lemmas.List.{length-take-le}
+use Rattle.std.proofs.Common.{◌≡◌, ℕ, zero, suc, ◌+◌, ◌*◌, ◌≤◌, List, [], ◌∷◌, ◌++◌, drop, get_or, replicate, Ok, sym, ap, ◌∙◌, subst, refl, arith}
+use Rattle.std.proofs.lemmas.List.{length-take-le, get_or-drop}
 use Rattle.algebra.specs.Refusals.{accepted}
 use Rattle.tally.specs.Access.{code_at}
 use Rattle.tally.specs.Bodies.{contents, element}
@@ -10,6 +10,17 @@ use Rattle.sheet.specs.Reads.{Taken}
 use Rattle.sheet.proofs.Readings.{sheet_exits, reading_frame, reading_sums, reading_name, reading-all, taken_all}
 use Rattle.sheet.proofs.Laws.{refused_laws, both_laws}
 use Rattle.sheet.proofs.read.read.Goals as goal
+
+-- a row that is filled up with z is z past its own end
+all_z : {X : Type 0} (z : X) (m k : ℕ) → get_or (replicate m z) k z ≡ z
+all_z z zero k = refl
+all_z z (suc m) zero = refl
+all_z z (suc m) (suc k) = all_z z m k
+
+filled_up : {X : Type 0} (z : X) (xs : List X) (n m k : ℕ) → get_or (xs ++ drop n (replicate m z)) k z ≡ get_or xs k z
+filled_up z [] n m k = get_or-drop n (replicate m z) k z ∙ all_z z m (n + k)
+filled_up z (x ∷ xs) n m zero = refl
+filled_up z (x ∷ xs) n m (suc k) = filled_up z xs n m k
 
 pub returns-in_err-frame : goal.returns-in_err-frame
 returns-in_err-frame g c =
@@ -85,6 +96,6 @@ returns g c =
     let answers : accepted ≡ reading q bs = reading-all q bs f.width f.spare t n head c.count.ensures (code_at codes) sums name.now end names in
     let taken : Taken q at bs name.now c.rest.result.now k =
     subst (λ x. Taken q at bs name.now x k) (sym rest) (taken_all q bs f.width f.spare t n head c.count.ensures (code_at codes) sums name.now end names at k some
-    (ap (λ x. x.width) c.restore.ensures.framed) (ap (λ x. x.spare) c.restore.ensures.framed) c.restore.ensures.turned c.restore.ensures.sums) in
+    (ap (λ x. x.width) c.restore.ensures.framed) (ap (λ x. x.spare) c.restore.ensures.framed) c.restore.ensures.turned (λ i h. c.restore.ensures.sums i h ∙ ap (λ x. at x.0) (filled_up (record { 0 = 0 }) codes n 96 i))) in
     let laws = both_laws g.F.Ring.ring q at bs k c.size-order.ensures.bounded (λ _. k ≡ k) (Ok (name, c.rest.result)) answers taken in
     record { answers = answers; taken = taken; back = laws.0; logged = laws.1 }
