@@ -10,8 +10,9 @@ fn bytes(heap: Global, word: &str) -> Result<Vec<u8>, NoAnswer> {
     if word == "-" {
         return Ok(Vec::new(heap));
     }
-    // The crate hex also reads digits in upper case.
-    if word.bytes().any(|digit| digit.is_ascii_uppercase()) {
+    // Tested before there is room for the bytes: what is no question takes no memory. The crate hex reads upper case too.
+    let is_digit = |letter| matches!(letter, b'0'..=b'9' | b'a'..=b'f');
+    if word.len() % 2 != 0 || !word.bytes().all(is_digit) {
         return Err(NoAnswer::NoQuestion);
     }
     let mut all = vec![in heap; 0u8; word.len() / 2]?;

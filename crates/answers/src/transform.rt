@@ -5,16 +5,15 @@ use algebra::graeffe::graeffe;
 use algebra::ring::Ring;
 use std::alloc::{AllocError, Global};
 
-// The Graeffe transform of f, in an output of the length asked for, as `write` writes it.
+// The Graeffe transform of f, in an output of this length, as `write` writes it.
 fn transformed<R: Ring + Clone + Drop, W: Fn(Global, &[R]) -> Result<String, AllocError>>(
     heap: Global,
     f: &[R],
-    out: &str,
+    long: usize,
     write: W,
 ) -> Result<String, NoAnswer>
     requires { W.IsAlwaysCallable write }
 {
-    let long = question::length(out, f.len())?;
     let mut out = vec![in heap; R::zero(); long]?;
     graeffe(f, &mut out)?;
     let row = write(heap, &out[0..f.len()])?;
@@ -27,8 +26,9 @@ pub fn double<F: Field + Clone + Drop>(heap: Global, words: &[&str]) -> Result<S
         return Err(NoAnswer::NoQuestion);
     };
     let codes = question::numbers(heap, codes)?;
+    let long = question::length(out, codes.len())?;
     let f = text::read::elements::<F>(heap, &codes)?;
-    transformed(heap, &f, out, text::write::codes::<F>)
+    transformed(heap, &f, long, text::write::codes::<F>)
 }
 
 // The transform of the dual numbers.
@@ -37,5 +37,6 @@ pub fn pairs<F: Field + Clone + Drop>(heap: Global, words: &[&str]) -> Result<St
         return Err(NoAnswer::NoQuestion);
     };
     let f = text::read::pairs::<F>(heap, duals)?.ok_or(NoAnswer::NoQuestion)?;
-    transformed(heap, &f, out, text::write::pairs::<F>)
+    let long = question::length(out, f.len())?;
+    transformed(heap, &f, long, text::write::pairs::<F>)
 }
