@@ -1,12 +1,12 @@
 -- What `parse` answers is what a word stands for.
-use Rattle.std.proofs.Common.{◌≡◌, ℕ, ◌^◌, ◌<◌, true, ◌&&◌, ltb, List, [], ◌∷◌, length, get_or, Some, None, Ok, Err, Result, sym, refl, ap, ◌∙◌, inl, inr, rules}
+use Rattle.std.proofs.Common.{◌≡◌, ℕ, ◌^◌, ◌<◌, true, false, ◌&&◌, ltb, List, [], ◌∷◌, length, get_or, Some, None, Ok, Err, Result, sym, refl, ap, ◌∙◌, inl, inr, rules}
 use Rattle.std.specs.Result.{OkIff, result_ok}
 use Rattle.std.specs.Str.Parse.{ParsesUnsigned}
-use Rattle.std.specs.Str.{all_ascii_digits}
+use Rattle.std.specs.Str.{all_ascii_digits, bytes_eq}
 use Rattle.std.proofs.lemmas.Str.Parse.{IsNumeralModel, numerals_by_fold, parse_plain}
 use Rattle.std.proofs.lemmas.Bool.{and_right, cases_Bool, cond-true, cond-false}
 use borrow.Author.Tests.{tests}
-use Rattle.text.specs.Numbers.{read_on, numeral, number_of}
+use Rattle.text.specs.Numbers.{read_on, numeral, number_of, length_of}
 
 own : IsNumeralModel (λ ds. all_ascii_digits ds ≡ true) (read_on 0)
 own = numerals_by_fold _ (search rules) read_on (search rules)
@@ -38,3 +38,8 @@ number-signed [] e = refl
 number-signed (c ∷ cs) e =
     sym (cond-false (numeral (c ∷ cs)) (Some (read_on 0 (c ∷ cs))) None
     (and_right (ltb 0 (length (c ∷ cs))) (all_ascii_digits (c ∷ cs) && ltb (read_on 0 (c ∷ cs)) (2 ^ 32)) (rw e refl)))
+
+-- a word that is no hyphen stands for the length that it is the number of
+pub length-number : (w : List ℕ) (needed : ℕ) → false ≡ bytes_eq w (45 ∷ []) → length_of w needed ≡ number_of w
+length-number w needed h =
+    cond-false (bytes_eq w (45 ∷ [])) (Some needed) (number_of w) (sym h)
