@@ -10,7 +10,7 @@ fn bytes(heap: Global, word: &str) -> Result<Vec<u8>, NoAnswer> {
     if word == "-" {
         return Ok(Vec::new(heap));
     }
-    // Tested before there is room for the bytes: what is no question takes no memory. The crate hex reads upper case too.
+    // Tested before there is room for the bytes: a word that is no row of bytes takes none. The crate hex reads upper case too.
     let is_digit = |letter| matches!(letter, b'0'..=b'9' | b'a'..=b'f');
     if word.len() % 2 != 0 || !word.bytes().all(is_digit) {
         return Err(NoAnswer::NoQuestion);

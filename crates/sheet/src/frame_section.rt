@@ -10,6 +10,7 @@ use tally::frame::{Frame, WIDEST};
 
 impl Reader<'_> {
     // The frame and the turnover that the first section tells, in a field of this order.
+    // Inlined, as the numbers are.
     #[inline(always)]
     pub(crate) fn frame(&mut self, order: u32) -> Result<(Frame, u32), FrameFault>
         requires order { 1 ≤ order }

@@ -11,7 +11,7 @@ use Rattle.sheet.proofs.Readings.{sheet_exits, reading_frame, reading_sums, read
 use Rattle.sheet.proofs.Laws.{refused_laws, both_laws}
 use Rattle.sheet.proofs.read.read.Goals as goal
 
--- a row that is filled up with z is z past its own end
+-- filling a row up with z leaves what it has at each place, z where it ends
 all_z : {X : Type 0} (z : X) (m k : ℕ) → get_or (replicate m z) k z ≡ z
 all_z z zero k = refl
 all_z z (suc m) zero = refl
